@@ -1,27 +1,12 @@
 -- A connection that opens, and a call that begins.
-use Rattle.std.proofs.Common.{◌≡◌, refl, sym, ap, ◌∙◌, ℕ, ◌≤◌, ◌<◌, List, [], ◌∷◌, ◌++◌, Option, Some, None, true, false, ⊎_elim, arith, subst}
-use Rattle.std.specs.Prelude.{◌^◌, All, is_some, map, nat_le, option_and_then, unwrap_or, Result, Err, IfErr}
-use Rattle.std.specs.Option.{option_or}
-use Rattle.std.proofs.lemmas.List.Folds.{list_any_none as none_any}
-use Rattle.std.proofs.lemmas.Bool.{cases_Bool}
-use Rattle.std.proofs.lemmas.List.{append_assoc, append-nil, map-append}
-use Rattle.std.proofs.lemmas.List.Elements.{All-nil, All-push, All-weaker}
-use Rattle.std.proofs.Math.Bool.{or-false}
-use Rattle.context_tree.specs.declared.node.Kind.{Kind}
-use Rattle.context_tree.specs.declared.node.Kind.TheVariants.{Cancel, Value}
-use Rattle.context_tree.specs.Context.{Id, same, Makes, held, handed}
-use Rattle.context_tree.specs.Tree.{IsLawful, TreeValue, StandsFor, is_among}
-use Rattle.after_funcs.specs.declared.callbacks.AfterFuncs.{AfterFuncs}
+use Rattle.call_contexts.proofs.Names.{◌≡◌, refl, sym, ap, ◌∙◌, ℕ, ◌≤◌, ◌<◌, List, [], ◌∷◌, ◌++◌, Option, Some, None, true, false, ⊎_elim, arith, subst, is_some, ◌^◌, All, map, option_and_then, unwrap_or, Result, Err, IfErr, option_or, list_any_none as none_any, cases_Bool, append-nil, map-append, All-nil, All-push, All-weaker, or-false, Kind, Cancel, Value, Id, same, Makes, held, handed, IsLawful, TreeValue, StandsFor, is_among, AfterFuncs, AfterFunc, registered, waiting, Life, Standing, cause_in, ended_conn, if_due, seen, seen_conn, seen_call, value_in, is_conn, is_call, is_fresh, seen_branch, opened, begun, Op, TreeLaws, IsSound, IsLife, IsConn, Touches, kind_of, moment_of, with_call, contexts, hook_of, kept_of, Distinct, IsTwig, IsUnhanded, all_ids, ids_in, ids_of, let_go, twig_ids, nat_tests}
+use Rattle.std.proofs.lemmas.List.{append_assoc}
 use Rattle.after_funcs.specs.declared.error.AfterError.{AfterError}
 use Rattle.after_funcs.specs.declared.error.AfterError.TheVariants.{Exhausted, Memory}
-use Rattle.after_funcs.specs.Hooks.{AfterFunc, registered, waiting}
 use Rattle.after_funcs.specs.Stands.{StandsFor as HooksStand}
-use Rattle.call_contexts.specs.declared.life.Life.{Life}
-use Rattle.call_contexts.specs.Standing.{Standing, cause_in, ended_conn, if_due, seen, seen_conn, seen_call, value_in, is_conn, is_call, is_fresh, seen_branch, opened, begun}
-use Rattle.call_contexts.specs.Sound.{Op, TreeLaws, IsSound, IsLife, IsConn, Touches, kind_of, moment_of, with_call, contexts, hook_of, kept_of, Distinct, IsTwig, IsUnhanded, all_ids, ids_in, ids_of, let_go, twig_ids}
 use Rattle.call_contexts.proofs.Trees.{same_turned, shown, shown_request, far_one, far_new, touch_made, made_held}
 use Rattle.call_contexts.proofs.Making.{born_ended, or_none, call_new, call_touches, call_held, holder_held, call_ended}
-use Rattle.call_contexts.proofs.Seeing.{call_as, ended_found, sound_held}
+use Rattle.call_contexts.proofs.Seeing.{call_as, ended_found}
 use Rattle.call_contexts.proofs.Lists.{any_map}
 use Rattle.call_contexts.proofs.Framing.{all_far, all_seen, calls_kept, conns_kept, framed_sound}
 use Rattle.call_contexts.proofs.Distinct.{Far, between, distinct_more}
@@ -115,24 +100,13 @@ module _ {C V H : Type 0} (laws : TreeLaws C V) {f : AfterFuncs H} {base : Id} {
 
   -- its two contexts are different
   two_ids : Distinct (contexts l.ctx l.holder)
-  two_ids = by l.holder request_id agree st.contexts.lawful
-    where
-      by : (holder : Option Id) (r : Option V) → is_some holder ≡ is_some r → IsLawful (with_call l.ctx holder l.conn l.deadline now r s.past) → Distinct (contexts l.ctx holder)
-      by None r same_there lawful = (refl, tt)
-      by (Some h) None same_there lawful = cc
-      by (Some h) (Some r) same_there lawful =
-          let mid : List (Op C V) = Makes h (Value l.conn 0 r) 0 ∷ s.past in
-          (or-false (same l.ctx h) ∙ far_new l.ctx h (Value l.conn 0 r) mid (laws.new_unheld mid l.ctx (kind_of h l.deadline) (moment_of l.deadline now) lawful) (made_held s.past h (Value l.conn 0 r) 0), (refl, tt))
+  two_ids = grind (arith, nat_tests, or-false, far_new, made_held)
 
   begin_else : (x : Id) → is_among x (all_ids s.root base conns (calls ++ l ∷ [])) ≡ false → held x (with_call l.ctx l.holder l.conn l.deadline now request_id s.past) ≡ None
-  begin_else x none =
-      let two = between x (all_ids s.root base conns calls) (contexts l.ctx l.holder) [] (sym (ap (is_among x) begun_ids) ∙ none) in
-      begin_touches.held_is x two.0 ∙ s.none_else x (ap (is_among x) (sym (append-nil (all_ids s.root base conns calls))) ∙ two.1)
+  begin_else x none = grind (arith, nat_tests, between, begun_ids, begin_touches, append-nil)
 
   unhanded_begun : (holder : Option Id) (r : Option V) (m : Life) → IsUnhanded s.past m → IsUnhanded (with_call l.ctx holder l.conn l.deadline now r s.past) m
-  unhanded_begun None r m is = is
-  unhanded_begun (Some h) None m is = is
-  unhanded_begun (Some h) (Some r) m is = is
+  unhanded_begun holder r m h3 = grind (arith, nat_tests)
 
   new_unhanded : handed l.ctx s.past ≡ false
   new_unhanded = by l.holder request_id st.contexts.lawful
@@ -210,29 +184,16 @@ module _ {C V H : Type 0} (laws : TreeLaws C V) {f : AfterFuncs H} {base : Id} {
   nothing_far = all_far s [] (λ x kind is. refl)
 
   pub sound_alike : ((x : Id) → handed x past ≡ handed x s.past) → (f' : AfterFuncs H) → HooksStand f' s.hooks → IsSound new f' base conns calls
-  sound_alike same_handed f' hs = sound_held laws s past (λ x. t.held_is x refl) f' hs new st
-      (All-weaker (IsUnhanded s.past) (IsUnhanded past)
-      (λ l is. (same_handed l.ctx ∙ is.0, All-weaker (λ t. handed t.ctx s.past ≡ false) (λ t. handed t.ctx past ≡ false) (λ t t_is. same_handed t.ctx ∙ t_is) l.twigs is.1)) calls s.unhanded)
+  sound_alike same_handed f' hs = grind arith
 
   pub seen_alike : seen new.slots base conns calls ≡ seen old.slots base conns calls
   seen_alike = all_seen laws s [] past new st t conns calls s.conns_are s.calls_are s.known nothing_far
 
 pub handed_back : {C V : Type 0} (ctx conn : Id) (at : Option ℕ) (now : ℕ) (past : List (Op C V)) (holder : Option Id) (r : Option V) (x : Id)
     → handed x (let_go ctx holder (with_call ctx holder conn at now r past)) ≡ handed x past
-handed_back ctx conn at now past None r x = refl
-handed_back ctx conn at now past (Some h) None x = refl
-handed_back ctx conn at now past (Some h) (Some r) x = refl
+handed_back ctx conn at now past holder r x = grind (arith, nat_tests)
 
 -- the hook that is refused comes back
 pub given_back : {A H : Type 0} (n : ℕ) (hook : H) (refused : H × AfterError) (answer : Result A (H × AfterError)) → answer ≡ Err refused
     → (2 ^ 62 ≤ n → answer ≡ Err (hook, Exhausted)) → (n < 2 ^ 62 → IfErr answer (λ r. r ≡ (hook, Memory))) → refused.0 ≡ hook
-given_back {A = A} {H = H} n hook refused answer is full short = ⊎_elim
-    (λ (y : nat_le (2 ^ 62) n ≡ true). let e : Err refused ≡ Err (hook, Exhausted) = sym is ∙ full (le y) in cc)
-    (λ (o : nat_le (2 ^ 62) n ≡ false). ap (λ (p : H × AfterError). p.0) (subst (λ (r : Result A (H × AfterError)). IfErr r (λ r. r ≡ (hook, Memory))) is (short (lt o))))
-    (cases_Bool (nat_le (2 ^ 62) n))
-  where
-    le : nat_le (2 ^ 62) n ≡ true → 2 ^ 62 ≤ n
-    le y = grind (arith, y)
-
-    lt : nat_le (2 ^ 62) n ≡ false → n < 2 ^ 62
-    lt o = grind (arith, o)
+given_back {A = A} {H = H} n hook refused answer is full short = grind arith

@@ -1,15 +1,5 @@
 -- The branches of one call, as they are kept and as they are seen.
-use Rattle.std.proofs.Common.{◌≡◌, refl, sym, ap, ◌∙◌, ℕ, zero, suc, ◌<◌, List, [], ◌∷◌, ◌++◌, take, drop, Some, Bool, true, false, ⊎_elim, subst, arith, length, slice_set}
-use Rattle.std.specs.Prelude.{◌||◌, not, if◌then◌else◌, map, filter, slice_index_or, All}
-use Rattle.std.specs.List.{list_any}
-use Rattle.std.proofs.lemmas.Bool.{cases_Bool, eq-eqb, ne_eqb, or_parts}
-use Rattle.std.proofs.lemmas.List.Elements.{All-nil, All-cons, All-head, All-tail, All-weaker}
-use Rattle.std.proofs.lemmas.Option.{same_Some}
-use Rattle.context_tree.specs.Context.{Id, same}
-use Rattle.call_contexts.specs.declared.life.Life.{Life}
-use Rattle.call_contexts.specs.declared.twig.Twig.{Twig}
-use Rattle.call_contexts.specs.Standing.{Branch, Call, Standing, WithHooks, Slots, cause_in, seen, seen_conn, seen_call, seen_branches, on_branches, bare_call, IsBare, with_branches, with_standing, is_call, gone}
-use Rattle.call_contexts.specs.Sound.{IsPlaced, NoTwo, drop_twig, life_at, same_ctx, with_twigs}
+use Rattle.call_contexts.proofs.Names.{◌≡◌, refl, sym, ap, ◌∙◌, ℕ, zero, suc, ◌<◌, List, [], ◌∷◌, ◌++◌, take, drop, Some, Bool, true, false, ⊎_elim, subst, arith, length, slice_set, not, if◌then◌else◌, map, filter, slice_index_or, All, list_any, cases_Bool, eq-eqb, ne_eqb, or_parts, All-nil, All-cons, All-head, All-tail, All-weaker, same_Some, Id, same, Life, Twig, Branch, Call, Standing, WithHooks, Slots, cause_in, seen, seen_conn, seen_call, seen_branches, on_branches, bare_call, IsBare, with_branches, with_standing, is_call, gone, IsPlaced, NoTwo, drop_twig, life_at, same_ctx, with_twigs, nat_tests}
 use Rattle.call_contexts.proofs.Hooking.{map_nil}
 use Rattle.call_contexts.proofs.Lists.{all_none, gone_first}
 use Rattle.call_contexts.proofs.Trees.{not_both, same_refl}
@@ -42,15 +32,7 @@ any_at p (x ∷ xs) (suc i) d none lt = any_at p xs i d (or_parts (p x) (list_an
 module _ (id : Id) where
   pub only_one : (l : Life) (ls : List Life) → NoTwo same_ctx ls → life_at id ls ≡ Some l → All (λ m. same m.ctx id ≡ true → m ≡ l) ls
   only_one l [] distinct found = cc
-  only_one l (m ∷ ms) distinct found = ⊎_elim
-      (λ (y : same m.ctx id ≡ true).
-      let e : m ≡ l = same_Some m l (rw y at found) in
-      All-cons (λ m. same m.ctx id ≡ true → m ≡ l) m ms (λ z. e)
-      (All-weaker (λ k. same k.ctx id ≡ false) (λ k. same k.ctx id ≡ true → k ≡ l) (λ k far z. absurd (not_both (same k.ctx id) z far)) ms
-      (all_none (λ k. same k.ctx id) ms (gone_first id m ms distinct.0 y))))
-      (λ (n : same m.ctx id ≡ false).
-      All-cons (λ m. same m.ctx id ≡ true → m ≡ l) m ms (λ z. absurd (not_both (same m.ctx id) z n)) (only_one l ms distinct.1 (rw n at found)))
-      (cases_Bool (same m.ctx id))
+  only_one l (m ∷ ms) distinct found = grind (arith, nat_tests, only_one l ms distinct.1, same_Some, All-cons, All-weaker, not_both, all_none, gone_first)
 
   pub others_still : (ts : List Twig) (ls : List Life) → list_any (λ k. same k.ctx id) ls ≡ false → map (with_twigs id ts) ls ≡ ls
   others_still ts [] none = refl
@@ -60,9 +42,7 @@ module _ (id : Id) where
   pub placed : (i : ℕ) (d : Life) (ts : List Twig) (ls : List Life) → NoTwo same_ctx ls → i < length ls → (slice_index_or ls i d).ctx ≡ id
       → (life_at id ls ≡ Some (slice_index_or ls i d)) × (slice_set ls i (record (slice_index_or ls i d) { twigs = ts }) ≡ map (with_twigs id ts) ls)
   placed i d ts [] distinct lt own = absurd (omega (arith, lt))
-  placed zero d ts (m ∷ ms) distinct lt own =
-      let y : same m.ctx id ≡ true = rw own (same_refl id) in
-      (rw y refl, rw y (ap (λ ks. record m { twigs = ts } ∷ ks) (sym (others_still ts ms (gone_first id m ms distinct.0 y)))))
+  placed zero d ts (m ∷ ms) distinct lt own = grind (arith, nat_tests, same_refl, others_still, gone_first)
   placed (suc i) d ts (m ∷ ms) distinct lt own =
       let low : i < length ms = omega (arith, lt) in
       let n : same m.ctx id ≡ false = ⊎_elim
@@ -86,10 +66,7 @@ module _ {C V : Type 0} (id : Id) where
 
   turned_twice : (f : Call C V → List (Branch C)) (cs : List (Call C V)) → turn_calls (λ c. []) (turn_calls f cs) ≡ turn_calls (λ c. []) cs
   turned_twice f [] = refl
-  turned_twice f (c ∷ cs) = ⊎_elim
-      (λ (y : same c.id id ≡ true). rw (y, y) (ap (λ l. with_branches [] c ∷ l) (turned_twice f cs)))
-      (λ (o : same c.id id ≡ false). rw (o, o) (ap (λ l. c ∷ l) (turned_twice f cs)))
-      (cases_Bool (same c.id id))
+  turned_twice f (c ∷ cs) = grind (arith, turned_twice f cs)
 
   pub bare_turned : (f : Call C V → List (Branch C)) (v : Standing C V) → bare_call id (on_branches id f v) ≡ bare_call id v
   bare_turned f v = ap (λ cs. record { drained = v.drained; conns = v.conns; calls = cs }) (turned_twice f v.calls)
@@ -105,17 +82,11 @@ module _ {C V : Type 0} (id : Id) where
 
   pub turned_call : (x : Id) (f : Call C V → List (Branch C)) (cs : List (Call C V)) → is_call x (turn_calls f cs) ≡ is_call x cs
   turned_call x f [] = refl
-  turned_call x f (c ∷ cs) = ⊎_elim
-      (λ (y : same c.id id ≡ true). rw y (ap (λ b. same c.id x || b) (turned_call x f cs)))
-      (λ (n : same c.id id ≡ false). rw n (ap (λ b. same c.id x || b) (turned_call x f cs)))
-      (cases_Bool (same c.id id))
+  turned_call x f (c ∷ cs) = grind (arith, turned_call x f cs)
 
   turned_gone : (f : Call C V → List (Branch C)) (cs : List (Call C V)) → filter (λ c. not (same c.id id)) (turn_calls f cs) ≡ filter (λ c. not (same c.id id)) cs
   turned_gone f [] = refl
-  turned_gone f (c ∷ cs) = ⊎_elim
-      (λ (y : same c.id id ≡ true). rw (y, y) (turned_gone f cs))
-      (λ (n : same c.id id ≡ false). rw (n, n) (ap (λ l. c ∷ l) (turned_gone f cs)))
-      (cases_Bool (same c.id id))
+  turned_gone f (c ∷ cs) = grind (arith, turned_gone f cs)
 
   pub bare_gone : {H : Type 0} (v : WithHooks C V H) → gone id (with_standing (bare_call id v.standing) v) ≡ gone id v
   bare_gone v = ap (λ cs. record { standing = record { drained = v.standing.drained; conns = v.standing.conns; calls = cs }; hooks = filter (λ p. not (same p.0 id)) v.hooks }) (turned_gone (λ c. []) v.standing.calls)
@@ -155,9 +126,7 @@ module _ {C V : Type 0} (slots : Slots C V) (id : Id) where
   -- nor where it is none of these
   pub none_seen : (f : Call C V → List (Branch C)) (base : Id) (conns : List Id) (ls : List Life) → list_any (λ m. same m.ctx id) ls ≡ false
       → seen slots base conns ls ≡ on_branches id f (seen slots base conns ls)
-  none_seen f base conns ls none = seen_still f base conns ls
-      (All-weaker (λ m. same m.ctx id ≡ false) (λ m. same m.ctx id ≡ true → f (seen_call slots m) ≡ seen_branches slots m.twigs) (λ m far y. absurd (not_both (same m.ctx id) y far)) ls
-      (all_none (λ m. same m.ctx id) ls none))
+  none_seen f base conns ls none = grind (arith, nat_tests, seen_still, All-weaker, not_both, all_none)
 
   -- a call that is seen without branches has none
   pub bare_twigs : (ls : List Life) → IsBare id (map (seen_call slots) ls) → All (λ m. same m.ctx id ≡ true → m.twigs ≡ []) ls

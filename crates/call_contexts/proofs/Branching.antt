@@ -1,20 +1,5 @@
 -- A branch that starts, and one that is let go of.
-use Rattle.std.proofs.Common.{◌≡◌, refl, sym, ap, ◌∙◌, ℕ, ◌<◌, length, slice_set, List, [], ◌∷◌, ◌++◌, Some, None, true, false, ⊎_elim, subst}
-use Rattle.std.specs.Prelude.{◌==◌, slice_index_or, is_some, map, All, unwrap_or}
-use Rattle.std.specs.Option.{option_or}
-use Rattle.std.proofs.lemmas.Bool.{cases_Bool}
-use Rattle.std.proofs.lemmas.List.{append-nil, map-append, set-get_or}
-use Rattle.std.proofs.lemmas.List.Elements.{All-cons, All-head, All-tail, All-map, All-push, All-weaker}
-use Rattle.std.proofs.Math.Bool.{or-false}
-use Rattle.std.proofs.lemmas.Option.{same_Some}
-use Rattle.context_tree.specs.declared.node.Kind.TheVariants.{Deadline}
-use Rattle.context_tree.specs.Context.{Id, same, Makes, Releases, held, handed, parent_of}
-use Rattle.context_tree.specs.Tree.{TreeValue, StandsFor, is_among}
-use Rattle.after_funcs.specs.declared.callbacks.AfterFuncs.{AfterFuncs}
-use Rattle.call_contexts.specs.declared.life.Life.{Life}
-use Rattle.call_contexts.specs.declared.twig.Twig.{Twig}
-use Rattle.call_contexts.specs.Standing.{Branch, Call, Slots, cause_in, if_due, drop_branch, seen, seen_conn, seen_call, seen_branch, seen_branches, branched, on_branches}
-use Rattle.call_contexts.specs.Sound.{Op, TreeLaws, Distinct, IsSound, IsLife, IsTwig, IsUnhanded, IsFree, IsPlaced, IsStarted, IsWithout, Touches, all_ids, twig_ids, kind_of, kept_of, drop_twig, with_twigs, life_at, NoTwo, same_ctx, why}
+use Rattle.call_contexts.proofs.Names.{◌≡◌, refl, sym, ap, ◌∙◌, ℕ, ◌<◌, length, slice_set, List, [], ◌∷◌, ◌++◌, Some, None, true, false, ⊎_elim, subst, is_some, arith, slice_index_or, map, All, unwrap_or, option_or, cases_Bool, append-nil, map-append, set-get_or, All-cons, All-head, All-tail, All-map, All-push, All-weaker, or-false, same_Some, Deadline, Id, same, Makes, Releases, held, handed, parent_of, TreeValue, StandsFor, is_among, AfterFuncs, Life, Twig, Branch, Call, Slots, cause_in, if_due, drop_branch, seen, seen_conn, seen_call, seen_branch, seen_branches, branched, on_branches, Op, TreeLaws, Distinct, IsSound, IsLife, IsTwig, IsUnhanded, IsFree, IsPlaced, IsStarted, IsWithout, Touches, all_ids, twig_ids, kind_of, kept_of, drop_twig, with_twigs, life_at, NoTwo, same_ctx, why, nat_tests}
 use Rattle.call_contexts.proofs.Trees.{same_refl, same_true, not_both, shown, far_one, far_new, touch_made, touch_released, made_held, released_held}
 use Rattle.call_contexts.proofs.Making.{born_ended}
 use Rattle.call_contexts.proofs.Seeing.{branch_as}
@@ -34,10 +19,7 @@ middle_all t P (u ∷ us) back all =
 
 pub dropped_seen : {C V : Type 0} (slots : Slots C V) (n : ℕ) (ts : List Twig) → drop_branch n (seen_branches slots ts) ≡ seen_branches slots (drop_twig n ts)
 dropped_seen slots n [] = refl
-dropped_seen slots n (t ∷ ts) = ⊎_elim
-    (λ (y : (t.branch == n) ≡ true). rw y refl)
-    (λ (o : (t.branch == n) ≡ false). rw o (ap (λ bs. seen_branch slots t ∷ bs) (dropped_seen slots n ts)))
-    (cases_Bool (t.branch == n))
+dropped_seen slots n (t ∷ ts) = grind (arith, dropped_seen slots n ts)
 
 -- ---- the call has other branches
 
@@ -211,10 +193,7 @@ module _ {C V H : Type 0} (laws : TreeLaws C V) {f : AfterFuncs H} {base : Id} {
     touches = touch_released t.ctx s.past
 
     dropped_else : (x : Id) → is_among x (all_ids s.root base conns (map (with_twigs id (front ++ back)) calls)) ≡ false → held x (Releases t.ctx ∷ s.past) ≡ None
-    dropped_else x none = ⊎_elim
-        (λ (y : same x t.ctx ≡ true). subst (λ z. held z (Releases t.ctx ∷ s.past) ≡ None) (sym (same_true x t.ctx y)) (released_held s.past t.ctx))
-        (λ (n : same x t.ctx ≡ false). let off : is_among x (t.ctx ∷ []) ≡ false = or-false (same x t.ctx) ∙ n in touches.held_is x off ∙ s.none_else x (none_more x off none))
-        (cases_Bool (same x t.ctx))
+    dropped_else x none = grind (arith, nat_tests, same_true, released_held, or-false, touches, none_more)
 
     pub sound_unbranched : IsSound new f base conns (map (with_twigs id (front ++ back)) calls)
     sound_unbranched = framed_sound laws s (t.ctx ∷ []) (Releases t.ctx ∷ s.past) new st touches conns left s.conns_are left_are left_known far f s.hooks conns left s.hooks_are

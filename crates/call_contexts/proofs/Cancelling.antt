@@ -1,16 +1,6 @@
 -- What is seen after a cancel of a connection.
-use Rattle.std.proofs.Common.{◌≡◌, refl, ap, ◌∙◌, ◌∷◌, Some, None, Bool, true, false}
-use Rattle.std.specs.Prelude.{◌&&◌, ◌||◌, List, All, map, unwrap_or}
-use Rattle.std.specs.Option.{option_or}
-use Rattle.std.proofs.lemmas.List.Elements.{All-weaker}
-use Rattle.context_tree.specs.declared.node.Kind.TheVariants.{Cancel, Deadline}
-use Rattle.context_tree.specs.Context.{Id, same, Cancels, chain, has_cancel, held}
-use Rattle.context_tree.specs.Tree.{TreeValue, StandsFor, is_ended_by_cancel, is_among}
-use Rattle.after_funcs.specs.declared.callbacks.AfterFuncs.{AfterFuncs}
-use Rattle.call_contexts.specs.declared.life.Life.{Life}
-use Rattle.call_contexts.specs.Standing.{cause_in, if_cancelled, seen, seen_conn, seen_call, seen_branch, seen_branches, ends_branch, ends_call, ends_conn, cancelled}
+use Rattle.call_contexts.proofs.Names.{◌≡◌, refl, ap, ◌∙◌, ◌∷◌, Some, None, Bool, true, false, List, ◌&&◌, ◌||◌, All, map, unwrap_or, option_or, All-weaker, Cancel, Deadline, Id, same, Cancels, chain, has_cancel, held, TreeValue, StandsFor, is_ended_by_cancel, is_among, AfterFuncs, Life, cause_in, if_cancelled, seen, seen_conn, seen_call, seen_branch, seen_branches, ends_branch, ends_call, ends_conn, cancelled, TreeLaws, IsSound, IsLife, IsConn, IsTwig, kind_of, ids_in, ids_of}
 use Rattle.call_contexts.proofs.Making.{or_none}
-use Rattle.call_contexts.specs.Sound.{TreeLaws, IsSound, IsLife, IsConn, IsTwig, kind_of, ids_in, ids_of}
 use Rattle.call_contexts.proofs.Trees.{base_chain, conn_chain, call_hit, twig_hit}
 use Rattle.call_contexts.proofs.Distinct.{ctx_off, lives_off, none_of_conns, twigs_off}
 use Rattle.call_contexts.proofs.Family.{among_in}

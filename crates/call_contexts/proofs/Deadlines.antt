@@ -1,37 +1,11 @@
 -- The least deadline is that of a call or a branch that has not ended.
-use Rattle.std.proofs.Common.{◌≡◌, refl, sym, ap, ◌∙◌, arith, rules, ℕ, List, [], ◌∷◌, Option, Some, None, Bool, true, false, inl, inr, ⊎_elim, is_none, subst}
-use Rattle.std.specs.Prelude.{◌⊎◌, ◌&&◌, ◌||◌, ◌==◌, min, is_some, map, nat_le, option_map, unwrap_or, All}
-use Rattle.std.specs.List.{list_any}
-use Rattle.std.specs.Option.{option_map_or}
-use Rattle.std.proofs.lemmas.Bool.{and_from, cases_Bool, or_cases, or_left, or_right}
-use Rattle.std.proofs.lemmas.List.Elements.{All-head, All-tail}
-use Rattle.std.proofs.lemmas.Option.{same_Some}
-use Rattle.context_tree.specs.declared.node.Kind.{Kind}
-use Rattle.context_tree.specs.declared.node.Kind.TheVariants.{Background, Cancel, Deadline}
-use Rattle.context_tree.specs.Context.{Id, same, held, chain, deadline, least, sooner, has_cancel, ending}
-use Rattle.context_tree.specs.Tree.{TreeValue, IsDeadline, IsLawful, is_among}
-use Rattle.after_funcs.specs.declared.callbacks.AfterFuncs.{AfterFuncs}
-use Rattle.call_contexts.specs.declared.life.Life.{Life}
-use Rattle.call_contexts.specs.declared.twig.Twig.{Twig}
-use Rattle.call_contexts.specs.Standing.{Branch, cause_in, has_deadline, seen_branch, seen_branches, seen_call}
-use Rattle.call_contexts.specs.Sound.{TreeLaws, IsLife, IsSound, IsTwig, all_ids, contexts, ids_in, ids_of, kind_of, twig_ids}
+use Rattle.call_contexts.proofs.Names.{◌≡◌, refl, sym, ap, ◌∙◌, arith, rules, ℕ, List, [], ◌∷◌, Option, Some, None, Bool, true, false, ⊎_elim, is_none, subst, is_some, ◌⊎◌, ◌&&◌, ◌||◌, ◌==◌, map, option_map, unwrap_or, All, list_any, option_map_or, and_from, cases_Bool, or_cases, or_left, or_right, All-head, All-tail, Kind, Background, Cancel, Deadline, Id, same, held, chain, deadline, least, sooner, has_cancel, ending, TreeValue, IsDeadline, IsLawful, is_among, AfterFuncs, Life, Twig, Branch, cause_in, has_deadline, seen_branch, seen_branches, seen_call, TreeLaws, IsLife, IsSound, IsTwig, all_ids, contexts, ids_in, ids_of, kind_of, twig_ids, nat_tests}
 use Rattle.call_contexts.proofs.Trees.{base_chain, call_deadline, call_hit, conn_chain, parent_least, same_refl, same_true, shown, twig_deadline, twig_hit}
 use Rattle.call_contexts.proofs.Lists.{any_map, picked}
 use Rattle.call_contexts.proofs.Family.{among_parts}
 
--- the least of two is one of them
-least_first : (a b first : ℕ) → nat_le a b ≡ true → min a b ≡ first → a ≡ first
-least_first a b first le is = grind (arith, le, is)
-
-least_second : (a b first : ℕ) → nat_le a b ≡ false → min a b ≡ first → b ≡ first
-least_second a b first gt is = grind (arith, gt, is)
-
 of_two : (a first : ℕ) (o : Option ℕ) → sooner (Some a) o ≡ Some first → (a ≡ first) ⊎ (o ≡ Some first)
-of_two a first None is = inl (same_Some a first is)
-of_two a first (Some b) is = ⊎_elim
-    (λ (le : nat_le a b ≡ true). inl (least_first a b first le (same_Some (min a b) first is)))
-    (λ (gt : nat_le a b ≡ false). inr (ap (λ x. Some x) (least_second a b first gt (same_Some (min a b) first is))))
-    (cases_Bool (nat_le a b))
+of_two a first o h3 = grind (arith, nat_tests)
 
 itself : (a first : ℕ) → a ≡ first → (a == first) ≡ true
 itself a first e = grind (arith, rules, e)

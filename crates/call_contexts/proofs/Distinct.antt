@@ -1,16 +1,5 @@
 -- Contexts that are all different, as some come among them and some go.
-use Rattle.std.proofs.Common.{◌≡◌, refl, sym, ap, ◌∙◌, List, [], ◌∷◌, ◌++◌, None, Some, true, false, ⊎_elim, append_assoc}
-use Rattle.std.specs.Prelude.{not, map, filter, All}
-use Rattle.std.specs.List.{list_any}
-use Rattle.std.proofs.lemmas.List.Folds.{list_any-append as any_append, list_any_none as none_any}
-use Rattle.std.proofs.lemmas.Bool.{cases_Bool, or_parts}
-use Rattle.std.proofs.lemmas.List.Elements.{All-nil, All-append, All-cons, All-head, All-tail, All-weaker}
-use Rattle.std.proofs.lemmas.Option.{same_Some}
-use Rattle.context_tree.specs.Context.{Id, same}
-use Rattle.context_tree.specs.Tree.{is_among}
-use Rattle.call_contexts.specs.declared.life.Life.{Life}
-use Rattle.call_contexts.specs.declared.twig.Twig.{Twig}
-use Rattle.call_contexts.specs.Sound.{Distinct, NoTwo, contexts, ids_in, ids_of, life_at, same_ctx, twig_ids, with_twigs}
+use Rattle.call_contexts.proofs.Names.{◌≡◌, refl, sym, ap, ◌∙◌, List, [], ◌∷◌, ◌++◌, None, Some, true, false, ⊎_elim, append_assoc, arith, not, map, filter, All, list_any, list_any-append as any_append, list_any_none as none_any, cases_Bool, or_parts, All-nil, All-append, All-cons, All-head, All-tail, All-weaker, same_Some, Id, same, is_among, Life, Twig, Distinct, NoTwo, contexts, ids_in, ids_of, life_at, same_ctx, twig_ids, with_twigs, nat_tests}
 use Rattle.call_contexts.proofs.Branches.{others_still}
 use Rattle.call_contexts.proofs.Family.{among_in, among_right, own_first}
 use Rattle.call_contexts.proofs.Lists.{all_none, any_map, all_stay, both_all, gone_first}
@@ -38,10 +27,7 @@ far_turned xs (y ∷ ys) far = All-cons (λ x. is_among x xs ≡ false) y ys
 
 distinct_parts : (xs ys : List Id) → Distinct (xs ++ ys) → Distinct xs × (Distinct ys × Far xs ys)
 distinct_parts [] ys d = (tt, (d, All-nil (λ x. is_among x ys ≡ false)))
-distinct_parts (x ∷ xs) ys d =
-    let rest = distinct_parts xs ys d.1 in
-    let two = far_parts x xs ys d.0 in
-    ((two.0, rest.0), (rest.1.0, All-cons (λ x. is_among x ys ≡ false) x xs two.1 rest.1.1))
+distinct_parts (x ∷ xs) ys d = grind (arith, nat_tests, distinct_parts xs ys d.1, far_parts, All-cons)
 
 distinct_both : (xs ys : List Id) → Distinct xs → Distinct ys → Far xs ys → Distinct (xs ++ ys)
 distinct_both [] ys a b far = b
@@ -74,10 +60,7 @@ pub none_between : (x : Id) (P M Q : List Id) → is_among x (P ++ Q) ≡ false 
 none_between x P M Q rest m = let two = far_parts x P Q rest in far_both x P (M ++ Q) two.0 (far_both x M Q m two.1)
 
 pub between : (x : Id) (P M Q : List Id) → is_among x (P ++ (M ++ Q)) ≡ false → (is_among x M ≡ false) × (is_among x (P ++ Q) ≡ false)
-between x P M Q none =
-    let a = far_parts x P (M ++ Q) none in
-    let b = far_parts x M Q a.1 in
-    (b.0, far_both x P Q a.0 b.1)
+between x P M Q none = grind (arith, nat_tests, far_parts, far_both)
 
 -- what is among those that go is none of the rest
 pub gone_from : (x : Id) (xs M : List Id) → Far xs M → is_among x M ≡ true → is_among x xs ≡ false
@@ -87,10 +70,7 @@ gone_from x xs M far there = ⊎_elim
     (cases_Bool (is_among x xs))
 
 pub ids_between : (R before front m back after : List Id) → R ++ (before ++ ((front ++ (m ++ back)) ++ after)) ≡ (R ++ (before ++ front)) ++ (m ++ (back ++ after))
-ids_between R before front m back after =
-    ap (λ xs. R ++ (before ++ xs)) (append_assoc front (m ++ back) after ∙ ap (λ xs. front ++ xs) (append_assoc m back after))
-    ∙ ap (λ xs. R ++ xs) (sym (append_assoc before front (m ++ (back ++ after))))
-    ∙ sym (append_assoc R (before ++ front) (m ++ (back ++ after)))
+ids_between R before front m back after = grind (arith, nat_tests, append_assoc)
 
 -- ---- the calls
 
@@ -215,15 +195,7 @@ conn_place id (c ∷ cs) distinct there = ⊎_elim
 
 pub among_rest : (x id : Id) (cs : List Id) → same x id ≡ false → is_among x cs ≡ true → is_among x (filter (λ c. not (same c id)) cs) ≡ true
 among_rest x id [] far there = cc
-among_rest x id (c ∷ cs) far there = ⊎_elim
-    (λ (y : same c id ≡ true).
-    let off : same x c ≡ false = ap (same x) (same_true c id y) ∙ far in
-    rw y (among_rest x id cs far (rw off at there)))
-    (λ (n : same c id ≡ false). rw n (⊎_elim
-    (λ (h : same x c ≡ true). rw h refl)
-    (λ (o : same x c ≡ false). rw o (among_rest x id cs far (rw o at there)))
-    (cases_Bool (same x c))))
-    (cases_Bool (same c id))
+among_rest x id (c ∷ cs) far there = grind (arith, among_rest x id cs far)
 
 -- the context of a connection is not the base, and of no call
 pub none_of_conns : (id root base : Id) (conns : List Id) (calls : List Life) → Distinct (root ∷ base ∷ conns ++ ids_in calls) → is_among id conns ≡ true → (same base id ≡ false) × (is_among id (ids_in calls) ≡ false)

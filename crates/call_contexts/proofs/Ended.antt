@@ -1,24 +1,5 @@
 -- A call that is over is found by what the tree hands out next, or none is over.
-use Rattle.std.proofs.Common.{◌≡◌, refl, sym, ap, ◌∙◌, List, [], ◌∷◌, ◌++◌, Option, Some, None, Bool, true, false, ⊎_elim}
-use Rattle.std.specs.Prelude.{◌||◌, ◌&&◌, IfNone, is_some, map, not, All, option_map, unwrap_or}
-use Rattle.std.specs.List.{list_any}
-use Rattle.std.specs.Option.{option_to_list}
-use Rattle.std.proofs.lemmas.List.Folds.{list_any_none as none_any}
-use Rattle.std.proofs.lemmas.Bool.{cases_Bool, eq-eqb, or_parts}
-use Rattle.std.proofs.lemmas.List.Elements.{All-nil, All-cons, All-head, All-tail, All-weaker}
-use Rattle.std.proofs.lemmas.Option.{same_Some}
-use Rattle.std.proofs.Math.Bool.{or-true}
-use Rattle.context_tree.specs.Context.{Id, Ended, same, HandsOut, held, handed, ending, is_waiting}
-use Rattle.context_tree.specs.Tree.{TreeValue, StandsFor}
-use Rattle.context_tree.specs.declared.node.Kind.{Kind}
-use Rattle.context_tree.specs.declared.node.Kind.TheVariants.{Deadline}
-use Rattle.after_funcs.specs.declared.callbacks.AfterFuncs.{AfterFuncs}
-use Rattle.gateway_model.specs.declared.id.CallId.{CallId}
-use Rattle.gateway_model.specs.Past.{is_call}
-use Rattle.call_contexts.specs.declared.life.Life.{Life}
-use Rattle.call_contexts.specs.declared.twig.Twig.{Twig}
-use Rattle.call_contexts.specs.Standing.{Slots, cause_in, has_ended, is_over, seen, seen_branch, seen_branches, seen_call}
-use Rattle.call_contexts.specs.Sound.{Op, IsLife, IsSound, IsTwig, IsUnhanded, is_row, kind_of, owner_of}
+use Rattle.call_contexts.proofs.Names.{◌≡◌, refl, sym, ap, ◌∙◌, List, [], ◌∷◌, ◌++◌, Option, Some, None, true, false, is_some, arith, ◌||◌, ◌&&◌, IfNone, map, not, All, option_map, unwrap_or, list_any, option_to_list, list_any_none as none_any, eq-eqb, or_parts, All-nil, All-cons, All-head, All-tail, All-weaker, same_Some, or-true, Id, Ended, same, HandsOut, held, handed, ending, is_waiting, TreeValue, StandsFor, Kind, Deadline, AfterFuncs, CallId, Life, Twig, Slots, cause_in, has_ended, is_over, seen, seen_branch, seen_branches, seen_call, Op, IsLife, IsSound, IsTwig, IsUnhanded, is_row, kind_of, owner_of, nat_tests}
 use Rattle.call_contexts.proofs.Beginning.{seen_alike}
 use Rattle.call_contexts.proofs.Lists.{any_map, both_all}
 use Rattle.call_contexts.proofs.Seeing.{sound_held}
@@ -29,21 +10,9 @@ use Rattle.call_contexts.proofs.Trees.{same_true, same_turned, shown}
 -- one that has no owner is of no call and of no branch
 pub no_owner : (x : Id) (calls : List Life) → owner_of x calls ≡ None → All (λ l. is_row x l ≡ false) calls
 no_owner x [] e = All-nil (λ l. is_row x l ≡ false)
-no_owner x (l ∷ ls) e = ⊎_elim
-    (λ (y : is_row x l ≡ true). let bad : Some l.id ≡ None = rw y at e in absurd (cc))
-    (λ (n : is_row x l ≡ false). All-cons (λ l. is_row x l ≡ false) l ls n (no_owner x ls (rw n at e)))
-    (cases_Bool (is_row x l))
+no_owner x (l ∷ ls) e = grind (arith, no_owner x ls)
 
 -- ---- it waits, so it has ended
-
-two_parts : (a b c : Bool) → (a && b && c) ≡ true → (a ≡ true) × (b ≡ true)
-two_parts true true c e = (refl, refl)
-two_parts true false c e = absurd (cc)
-two_parts false b c e = absurd (cc)
-
-cause_some : {C : Type 0} (o : Option (Ended C)) → is_some o ≡ true → is_some (option_map (λ e. e.cause) o) ≡ true
-cause_some None e = absurd (cc)
-cause_some (Some x) e = refl
 
 cause_none : {C : Type 0} (o : Option (Ended C)) → (true && is_some o && true) ≡ false → is_some (option_map (λ e. e.cause) o) ≡ false
 cause_none None e = refl
@@ -51,14 +20,7 @@ cause_none (Some x) e = absurd (cc)
 
 module _ {C V : Type 0} (now : TreeValue C V) (past : List (Op C V)) (st : StandsFor now past) (x : Id) where
   waits_ended : is_waiting x past ≡ true → is_some (cause_in now.slots x) ≡ true
-  waits_ended w = by (held x past) refl
-    where
-      two : (is_some (held x past) ≡ true) × (is_some (ending x past) ≡ true)
-      two = two_parts (is_some (held x past)) (is_some (ending x past)) (not (handed x past)) w
-
-      by : (o : Option (Kind C V)) → held x past ≡ o → is_some (cause_in now.slots x) ≡ true
-      by None e = absurd (let clash : false ≡ true = sym (ap (λ (o : Option (Kind C V)). is_some o) e) ∙ two.0 in cc)
-      by (Some k) e = ap (λ o. is_some o) (shown now past x k st e) ∙ cause_some (ending x past) two.1
+  waits_ended w = grind arith
 
   rests_not : (k : Kind C V) → held x past ≡ Some k → handed x past ≡ false → is_waiting x past ≡ false → is_some (cause_in now.slots x) ≡ false
   rests_not k is off w = ap (λ o. is_some o) (shown now past x k st is) ∙ cause_none (ending x past)
@@ -69,26 +31,14 @@ module _ {C V : Type 0} (now : TreeValue C V) (past : List (Op C V)) (st : Stand
 module _ {C V : Type 0} (slots : Slots C V) where
   over_twig : (x : Id) (ts : List Twig) → list_any (λ t. same t.ctx x) ts ≡ true → is_some (cause_in slots x) ≡ true → list_any (λ b. is_some b.ended) (seen_branches slots ts) ≡ true
   over_twig x [] any over = absurd (cc)
-  over_twig x (t ∷ ts) any over = ⊎_elim
-      (λ (y : same t.ctx x ≡ true). let here : is_some (cause_in slots t.ctx) ≡ true = ap (λ z. is_some (cause_in slots z)) (same_true t.ctx x y) ∙ over in rw here refl)
-      (λ (n : same t.ctx x ≡ false). ap (λ b. is_some (cause_in slots t.ctx) || b) (over_twig x ts (rw n at any) over) ∙ or-true (is_some (cause_in slots t.ctx)))
-      (cases_Bool (same t.ctx x))
+  over_twig x (t ∷ ts) any over = grind (arith, over_twig x ts)
 
   over_row : (x : Id) (l : Life) → is_row x l ≡ true → is_some (cause_in slots x) ≡ true → is_over (seen_call slots l) ≡ true
-  over_row x l row over = ⊎_elim
-      (λ (y : same l.ctx x ≡ true). let here : is_some (cause_in slots l.ctx) ≡ true = ap (λ z. is_some (cause_in slots z)) (same_true l.ctx x y) ∙ over in rw here refl)
-      (λ (n : same l.ctx x ≡ false). ap (λ b. is_some (cause_in slots l.ctx) || b) (over_twig x l.twigs (rw n at row) over) ∙ or-true (is_some (cause_in slots l.ctx)))
-      (cases_Bool (same l.ctx x))
+  over_row x l row over = grind (arith, nat_tests, same_true, over_twig, or-true)
 
   pub over_owner : (x : Id) (id : CallId) (ls : List Life) → owner_of x ls ≡ Some id → is_some (cause_in slots x) ≡ true → list_any (has_ended id) (map (seen_call slots) ls) ≡ true
   over_owner x id [] found over = absurd (cc)
-  over_owner x id (l ∷ ls) found over = ⊎_elim
-      (λ (y : is_row x l ≡ true).
-      let e : l.id ≡ id = same_Some l.id id (rw y at found) in
-      let own : is_call l.id id ≡ true = ap (is_call l.id) (sym e) ∙ rw (eq-eqb l.id.conn l.id.conn refl, eq-eqb l.id.request l.id.request refl) refl in
-      rw (own, over_row x l y over) refl)
-      (λ (n : is_row x l ≡ false). ap (λ b. has_ended id (seen_call slots l) || b) (over_owner x id ls (rw n at found) over) ∙ or-true (has_ended id (seen_call slots l)))
-      (cases_Bool (is_row x l))
+  over_owner x id (l ∷ ls) found over = grind (arith, nat_tests, over_owner x id ls, same_Some, eq-eqb, over_row, or-true)
 
   none_over_of : (ts : List Twig) → All (λ t. is_some (cause_in slots t.ctx) ≡ false) ts → list_any (λ b. is_some b.ended) (seen_branches slots ts) ≡ false
   none_over_of ts all = any_map (λ b. is_some b.ended) (seen_branch slots) ts ∙ none_any (λ t. is_some (cause_in slots t.ctx)) ts all
@@ -136,8 +86,4 @@ module _ {C V H : Type 0} {f : AfterFuncs H} (base : Id) (conns : List Id) (call
 -- what is handed out is what was seen to stand first
 pub handed_out : {C V : Type 0} (t : TreeValue C V) (x : Id) (r : Option Id) (left : List Id) → (rest : List Id) × (t.done ≡ x ∷ rest) → t.done ≡ option_to_list r ++ left → IfNone r (t.done ≡ [])
     → r ≡ Some x
-handed_out t x None left first next empty = absurd (let clash : x ∷ first.0 ≡ [] = sym first.1 ∙ empty in cc)
-handed_out t x (Some y) left first next empty = ap (λ z. Some z) (head (sym next ∙ first.1))
-  where
-    head : {a b : Id} {xs ys : List Id} → a ∷ xs ≡ b ∷ ys → a ≡ b
-    head e = cc
+handed_out t x r left h4 h5 h6 = grind (arith, nat_tests)

@@ -1,19 +1,5 @@
 -- What derives from what, of the contexts that are kept.
-use Rattle.std.proofs.Common.{◌≡◌, refl, sym, ap, ◌∙◌, ℕ, List, [], ◌∷◌, ◌++◌, Option, Some, None, true, false, inl, inr, ⊎_elim, subst}
-use Rattle.std.specs.Prelude.{◌⊎◌, All, unwrap_or}
-use Rattle.std.proofs.lemmas.List.Folds.{list_any-append as any_append}
-use Rattle.std.proofs.lemmas.Bool.{cases_Bool, or_cases, or_left, or_right}
-use Rattle.std.proofs.lemmas.List.Elements.{All-append, All-cons, All-head, All-nil, All-tail, All-weaker}
-use Rattle.std.proofs.Math.Bool.{or-false}
-use Rattle.std.proofs.lemmas.Option.{same_Some}
-use Rattle.context_tree.specs.declared.node.Kind.{Kind}
-use Rattle.context_tree.specs.declared.node.Kind.TheVariants.{Background, Cancel, Deadline, Value}
-use Rattle.context_tree.specs.Context.{Id, same, held, parent_of}
-use Rattle.context_tree.specs.Tree.{TreeValue, is_among}
-use Rattle.after_funcs.specs.declared.callbacks.AfterFuncs.{AfterFuncs}
-use Rattle.call_contexts.specs.declared.life.Life.{Life}
-use Rattle.call_contexts.specs.declared.twig.Twig.{Twig}
-use Rattle.call_contexts.specs.Sound.{Op, IsSound, IsLife, IsConn, IsHolder, IsTwig, all_ids, contexts, ids_in, ids_of, kind_of, twig_ids}
+use Rattle.call_contexts.proofs.Names.{◌≡◌, refl, sym, ap, ◌∙◌, ℕ, List, [], ◌∷◌, ◌++◌, Option, Some, None, true, false, inl, inr, ⊎_elim, subst, arith, ◌⊎◌, All, unwrap_or, list_any-append as any_append, cases_Bool, or_cases, or_left, or_right, All-append, All-cons, All-head, All-nil, All-tail, All-weaker, same_Some, Kind, Background, Cancel, Deadline, Value, Id, same, held, parent_of, TreeValue, is_among, AfterFuncs, Life, Twig, Op, IsSound, IsLife, IsConn, IsHolder, IsTwig, all_ids, contexts, ids_in, ids_of, kind_of, twig_ids, nat_tests}
 use Rattle.call_contexts.proofs.Lists.{both_all}
 use Rattle.call_contexts.proofs.Trees.{not_both, same_refl, same_true}
 
@@ -41,11 +27,7 @@ among_in P y (x ∷ xs) all is = ⊎_elim
     (cases_Bool (same y x))
 
 pub owned : (y ctx : Id) (holder : Option Id) → is_among y (contexts ctx holder) ≡ true → (y ≡ ctx) ⊎ (holder ≡ Some y)
-owned y ctx None is = inl (same_true y ctx (sym (or-false (same y ctx)) ∙ is))
-owned y ctx (Some x) is = ⊎_elim
-    (λ (h : same y ctx ≡ true). inl (same_true y ctx h))
-    (λ (n : same y ctx ≡ false). let e : y ≡ x = same_true y x (sym (or-false (same y x)) ∙ (rw n at is)) in inr (ap (λ z. Some z) (sym e)))
-    (cases_Bool (same y ctx))
+owned y ctx holder h3 = grind (arith, nat_tests)
 
 pub own_first : (ctx : Id) (holder : Option Id) → is_among ctx (contexts ctx holder) ≡ true
 own_first ctx None = among_here ctx []
@@ -89,9 +71,7 @@ module _ {C V : Type 0} (past : List (Op C V)) (root base : Id) (root_is : held 
     all_in (l ∷ ls) all = All-append P (ids_of l) (ids_in ls) (all_of l (All-head (IsLife past base) l ls all)) (all_in ls (All-tail (IsLife past base) l ls all))
 
     pub each_held : (cs : List Id) (ls : List Life) → All (IsConn base past) cs → All (IsLife past base) ls → All P (all_ids root base cs ls)
-    each_held cs ls cs_are ls_are = All-cons P root (base ∷ cs ++ ids_in ls) (each root Background root_is)
-        (All-cons P base (cs ++ ids_in ls) (each base (Cancel root) base_is)
-        (All-append P cs (ids_in ls) (All-weaker (IsConn base past) P (λ c is. each c (Cancel base) is) cs cs_are) (all_in ls ls_are)))
+    each_held cs ls cs_are ls_are = search (arith, nat_tests, All-cons, All-append, All-weaker, all_in)
 
   module _ (cs : List Id) (ls : List Life) (cs_are : All (IsConn base past) cs) (ls_are : All (IsLife past base) ls) (known : All (λ l. is_among l.conn cs ≡ true) ls) where
     module _ (x y : Id) (k : Kind C V) (y_is : held y past ≡ Some k) (derives : parent_of k ≡ Some x) where
@@ -161,11 +141,4 @@ module _ {C V H : Type 0} {f : AfterFuncs H} {base : Id} {conns : List Id} {call
     (ms : List Id) (parts : (y : Id) → is_among y ms ≡ false → is_among y (all_ids s.root base cs ls) ≡ false → is_among y (all_ids s.root base conns calls) ≡ false) where
   -- where none of those that go with it derives from it
   pub childless : (x : Id) → is_among x (all_ids s.root base cs ls) ≡ false → (y : Id) (k : Kind C V) → held y s.past ≡ Some k → parent_of k ≡ Some x → (is_among y ms ≡ true → ⊥) → ⊥
-  childless x gone y k y_is derives other = ⊎_elim
-      (λ (m : is_among y ms ≡ true). other m)
-      (λ (n : is_among y ms ≡ false). ⊎_elim
-      (λ (kept : is_among y (all_ids s.root base cs ls) ≡ true).
-      not_both (is_among x (all_ids s.root base cs ls)) (parent_kept s.past s.root base s.root_is s.base_is cs ls cs_are ls_are known x y k y_is derives kept) gone)
-      (λ (off : is_among y (all_ids s.root base cs ls) ≡ false). let bad : None ≡ Some k = sym (s.none_else y (parts y n off)) ∙ y_is in cc)
-      (cases_Bool (is_among y (all_ids s.root base cs ls))))
-      (cases_Bool (is_among y ms))
+  childless x gone y k y_is derives other = grind (arith, nat_tests, not_both, parent_kept)

@@ -1,18 +1,6 @@
 -- What the making and the release of contexts leave of the others.
-use Rattle.std.proofs.Common.{◌≡◌, refl, sym, ◌∙◌, List, [], ◌∷◌, ◌++◌, Option, Some, None, false, true}
-use Rattle.std.specs.Prelude.{map, All, option_and_then, unwrap_or}
-use Rattle.std.proofs.lemmas.List.Elements.{All-head, All-tail, All-weaker, All-nil, All-cons}
-use Rattle.context_tree.specs.declared.node.Kind.{Kind}
-use Rattle.context_tree.specs.declared.node.Kind.TheVariants.{Background, Cancel, Deadline, Value}
-use Rattle.context_tree.specs.Context.{Id, held}
-use Rattle.context_tree.specs.Tree.{TreeValue, StandsFor, is_among}
-use Rattle.after_funcs.specs.declared.callbacks.AfterFuncs.{AfterFuncs}
-use Rattle.after_funcs.specs.Hooks.{Operation, waiting, due}
+use Rattle.call_contexts.proofs.Names.{◌≡◌, refl, sym, ◌∙◌, List, [], ◌∷◌, ◌++◌, Option, Some, None, false, true, arith, map, All, option_and_then, unwrap_or, All-head, All-tail, All-weaker, All-nil, All-cons, Kind, Cancel, Deadline, Value, Id, held, TreeValue, StandsFor, is_among, AfterFuncs, Operation, waiting, due, Life, Twig, cause_in, seen, seen_conn, seen_call, seen_branch, value_in, Op, TreeLaws, Distinct, IsSound, IsLife, IsConn, IsHolder, IsTwig, IsUnhanded, Touches, all_ids, contexts, ids_in, ids_of, kind_of, hook_of, kept_of, twig_ids, nat_tests}
 use Rattle.after_funcs.specs.Stands.{StandsFor as HooksStand}
-use Rattle.call_contexts.specs.declared.life.Life.{Life}
-use Rattle.call_contexts.specs.declared.twig.Twig.{Twig}
-use Rattle.call_contexts.specs.Standing.{cause_in, seen, seen_conn, seen_call, seen_branch, value_in}
-use Rattle.call_contexts.specs.Sound.{Op, TreeLaws, Distinct, IsSound, IsLife, IsConn, IsHolder, IsTwig, IsUnhanded, Touches, all_ids, contexts, ids_in, ids_of, kind_of, hook_of, kept_of, twig_ids}
 use Rattle.call_contexts.proofs.Distinct.{Far, all_parts}
 use Rattle.call_contexts.proofs.Family.{among_in, each_held}
 use Rattle.call_contexts.proofs.Trees.{shown, shown_request}
@@ -92,24 +80,7 @@ module _ {C V H : Type 0} (laws : TreeLaws C V) {f : AfterFuncs H} {base : Id} {
   pub framed_sound : (f' : AfterFuncs H) (hooks' : List (Operation H)) (cs' : List Id) (ls' : List Life) → HooksStand f' hooks' → All (IsConn base later) cs' → All (IsLife later base) ls'
       → All (λ l. is_among l.conn cs' ≡ true) ls' → ((x : Id) → is_among x (all_ids s.root base cs' ls') ≡ false → held x later ≡ None) → Distinct (all_ids s.root base cs' ls')
       → map hook_of (waiting hooks') ≡ map kept_of ls' → due hooks' ≡ [] → All (IsUnhanded later) ls' → IsSound new f' base cs' ls'
-  framed_sound f' hooks' cs' ls' hs conns_are calls_are known_are else_none distinct waits none unhanded = record {
-    laws = laws;
-    past = later;
-    hooks = hooks';
-    tree_is = st;
-    hooks_are = hs;
-    root = s.root;
-    root_is = keeps s.root Background s.root_is root_off;
-    base_is = keeps base (Cancel s.root) s.base_is base_off;
-    conns_are = conns_are;
-    calls_are = calls_are;
-    known = known_are;
-    none_else = else_none;
-    distinct = distinct;
-    hook_waits = waits;
-    none_due = none;
-    unhanded = unhanded;
-  }
+  framed_sound f' hooks' cs' ls' hs conns_are calls_are known_are else_none distinct waits none unhanded = grind (arith, nat_tests, keeps, root_off, base_off)
 
   calls_seen : map (seen_call new.slots) ls ≡ map (seen_call old.slots) ls
   calls_seen = maps_agree (seen_call new.slots) (seen_call old.slots) ls

@@ -1,14 +1,5 @@
 -- The contexts of a call's branches go, one after the other, the last first.
-use Rattle.std.proofs.Common.{◌≡◌, refl, sym, ap, ◌∙◌, arith, ℕ, zero, suc, ◌<◌, List, [], ◌∷◌, length, subst, slice_set}
-use Rattle.std.specs.Prelude.{slice_index_or}
-use Rattle.std.proofs.lemmas.List.{length-append}
-use Rattle.context_tree.specs.Context.{Id, Releases}
-use Rattle.context_tree.specs.Tree.{TreeValue, StandsFor}
-use Rattle.after_funcs.specs.declared.callbacks.AfterFuncs.{AfterFuncs}
-use Rattle.call_contexts.specs.declared.life.Life.{Life}
-use Rattle.call_contexts.specs.declared.twig.Twig.{Twig}
-use Rattle.call_contexts.specs.Standing.{bare_call, seen, seen_branches}
-use Rattle.call_contexts.specs.Sound.{Op, BranchesGo, IsFree, IsPlaced, IsSound, IsWithout}
+use Rattle.call_contexts.proofs.Names.{◌≡◌, refl, sym, ap, ◌∙◌, arith, ℕ, zero, suc, ◌<◌, List, [], ◌∷◌, length, subst, slice_set, slice_index_or, length-append, Id, Releases, TreeValue, StandsFor, AfterFuncs, Life, Twig, bare_call, seen, seen_branches, Op, BranchesGo, IsFree, IsPlaced, IsSound, IsWithout, nat_tests}
 use Rattle.call_contexts.proofs.Branches.{bare_turned}
 use Rattle.call_contexts.proofs.Branching.{same_set, seen_same, seen_taken, sound_taken}
 
@@ -29,10 +20,7 @@ left_set zero x (l ∷ ls) lt = refl
 left_set (suc i) x (l ∷ ls) lt = left_set i x ls (omega (arith, lt))
 
 pub fewer_left : (t : Twig) (old new : List Twig) → IsWithout t old new → length new < length old
-fewer_left t old new w =
-    let more = ap length w.was ∙ length-append w.front (t ∷ w.back) in
-    let less = ap length w.is ∙ length-append w.front w.back in
-    omega (arith, more, less)
+fewer_left t old new w = grind (arith, nat_tests, length-append)
 
 placed_set : (id : Id) (i : ℕ) (x : Life) (ls : List Life) → i < length ls → x.ctx ≡ id → IsPlaced id i (slice_set ls i x)
 placed_set id i x [] lt own = absurd (omega (arith, lt))

@@ -1,20 +1,9 @@
 -- The hooks of calls, which stand as the calls do.
-use Rattle.std.proofs.Common.{◌≡◌, refl, sym, ap, ◌∙◌, arith, ℕ, ◌<◌, suc, List, [], ◌∷◌, ◌++◌, drop, Option, Some, None, Bool, true, false, ⊎_elim, subst, nat_eq, eq-eqb}
-use Rattle.std.specs.Prelude.{not, is_some, map, filter, All, Result, IsSomeAnd, IfSome}
-use Rattle.std.specs.List.{list_any, AllPairs}
+use Rattle.call_contexts.proofs.Names.{◌≡◌, refl, sym, ap, ◌∙◌, arith, ℕ, ◌<◌, suc, List, [], ◌∷◌, ◌++◌, drop, Option, Some, Bool, true, false, ⊎_elim, subst, nat_eq, is_some, not, map, filter, All, Result, IfSome, list_any, AllPairs, cases_Bool, eqb-true, map-append, All-nil, All-cons, All-head, All-tail, All-map, All-from_get_or, same_Some, Id, same, AfterFuncs, Operation, AfterFunc, Fire, RunNext, Stop, registered, waiting, due, is_on, IsAnswerOfFirst, Life, WithHooks, Slots, on_ctx, hook_for, seen_call, hook_of, kept_of, life_at, NoTwo, same_ctx, nat_tests}
+use Rattle.std.proofs.Common.{eq-eqb}
 use Rattle.std.specs.declared.alloc.AllocError.{AllocError}
-use Rattle.std.proofs.lemmas.Bool.{cases_Bool, eqb-true}
-use Rattle.std.proofs.lemmas.List.{map-append}
-use Rattle.std.proofs.lemmas.List.Elements.{All-nil, All-cons, All-head, All-tail, All-map, All-from_get_or}
-use Rattle.std.proofs.lemmas.Option.{same_Some}
-use Rattle.context_tree.specs.Context.{Id, same}
-use Rattle.after_funcs.specs.declared.callbacks.AfterFuncs.{AfterFuncs}
 use Rattle.after_funcs.specs.declared.registration.Registration.{Registration}
-use Rattle.after_funcs.specs.Hooks.{Operation, AfterFunc, Fire, RunNext, Stop, registered, waiting, due, is_on, IsAnswerOfFirst}
 use Rattle.after_funcs.specs.Stands.{StandsFor as HooksStand}
-use Rattle.call_contexts.specs.declared.life.Life.{Life}
-use Rattle.call_contexts.specs.Standing.{WithHooks, Slots, on_ctx, hook_for, seen_call}
-use Rattle.call_contexts.specs.Sound.{hook_of, kept_of, life_at, NoTwo, same_ctx}
 use Rattle.call_contexts.proofs.Trees.{same_true}
 use Rattle.call_contexts.proofs.Lists.{any_map, all_stay, unmapped}
 
@@ -23,10 +12,7 @@ pair_is v w l h = ap (λ x. record { standing = x; hooks = v.hooks }) l ∙ ap (
 
 pub filter_map_swap : {A B : Type 0} (f : A → B) (p : B → Bool) (xs : List A) → filter p (map f xs) ≡ map f (filter (λ x. p (f x)) xs)
 filter_map_swap f p [] = refl
-filter_map_swap f p (x ∷ xs) = ⊎_elim
-    (λ (y : p (f x) ≡ true). rw y (ap (λ l. f x ∷ l) (filter_map_swap f p xs)))
-    (λ (n : p (f x) ≡ false). rw n (filter_map_swap f p xs))
-    (cases_Bool (p (f x)))
+filter_map_swap f p (x ∷ xs) = grind (arith, filter_map_swap f p xs)
 
 -- lists of equal pictures have equal pictures after a filter that reads the picture
 filters_alike : {A B C : Type 0} (f : A → C) (g : B → C) (p : C → Bool) (xs : List A) (ys : List B) → map f xs ≡ map g ys
@@ -59,24 +45,15 @@ map_twice f g (x ∷ xs) = ap (λ l. f (g x) ∷ l) (map_twice f g xs)
 
 none_left : (id : Id) (ls : List Life) → list_any (λ m. same m.ctx id) ls ≡ false → filter (λ m. same m.ctx id) ls ≡ []
 none_left id [] is = refl
-none_left id (l ∷ ls) is = ⊎_elim
-    (λ (y : same l.ctx id ≡ true). let bad : true ≡ false = rw y at is in cc)
-    (λ (n : same l.ctx id ≡ false). rw n (none_left id ls (rw n at is)))
-    (cases_Bool (same l.ctx id))
+none_left id (l ∷ ls) is = grind (arith, none_left id ls)
 
 one_left : (id : Id) (ls : List Life) → NoTwo same_ctx ls → drop 1 (filter (λ m. same m.ctx id) ls) ≡ []
 one_left id [] all = refl
-one_left id (l ∷ ls) all = ⊎_elim
-    (λ (y : same l.ctx id ≡ true). rw y (none_left id ls (subst (λ x. list_any (λ (m : Life). same m.ctx x) ls ≡ false) (same_true l.ctx id y) all.0)))
-    (λ (n : same l.ctx id ≡ false). rw n (one_left id ls all.1))
-    (cases_Bool (same l.ctx id))
+one_left id (l ∷ ls) all = grind (arith, nat_tests, one_left id ls all.1, none_left, same_true)
 
 some_left : (id : Id) (ls : List Life) → list_any (λ m. same m.ctx id) ls ≡ true → filter (λ m. same m.ctx id) ls ≡ [] → ⊥
 some_left id [] is none = cc
-some_left id (l ∷ ls) is none = ⊎_elim
-    (λ (y : same l.ctx id ≡ true). let bad : l ∷ filter (λ m. same m.ctx id) ls ≡ [] = rw y at none in cc)
-    (λ (n : same l.ctx id ≡ false). some_left id ls (rw n at is) (rw n at none))
-    (cases_Bool (same l.ctx id))
+some_left id (l ∷ ls) is none = grind (arith, some_left id ls)
 
 module _ {H : Type 0} (id : Id) (hooks : List (Operation H)) (calls : List Life) (waits : map hook_of (waiting hooks) ≡ map kept_of calls) (none : due hooks ≡ []) (distinct : NoTwo same_ctx calls) where
   pub fired_waits : map hook_of (waiting (RunNext ∷ Fire id ∷ hooks)) ≡ map kept_of (filter (λ l. not (same l.ctx id)) calls)
@@ -93,12 +70,7 @@ module _ {H : Type 0} (id : Id) (hooks : List (Operation H)) (calls : List Life)
 
   pub fired_answer : {E O : Type 0} (gives : H → E → Result O AllocError → Type 0) (event : E) (answer : Option (ℕ × Result O AllocError))
       → IsAnswerOfFirst gives event (due (Fire id ∷ hooks)) answer → list_any (λ m. same m.ctx id) calls ≡ true → is_some answer ≡ true
-  fired_answer {O = O} gives event answer is any = of_due (due (Fire id ∷ hooks)) answer is (λ e. some_left id calls any (map_nil kept_of _ (sym those_on ∙ ap (map hook_of) (sym due_is ∙ e))))
-    where
-      of_due : (ds : List (Registration H)) (answer : Option (ℕ × Result O AllocError)) → IsAnswerOfFirst gives event ds answer → (ds ≡ [] → ⊥) → is_some answer ≡ true
-      of_due [] answer is none = absurd (none refl)
-      of_due (d ∷ ds) None is none = absurd is
-      of_due (d ∷ ds) (Some a) is none = refl
+  fired_answer {O = O} gives event answer is any = grind (arith, nat_tests, some_left, map_nil, those_on, due_is)
 
 -- ---- the hook that is stopped
 
@@ -204,17 +176,8 @@ no_hook_gone f hooks hs id calls waits none =
 module _ {H E O : Type 0} (gives : H → E → Result O AllocError → Type 0) (event : E) (id : Id) (h : H) where
   first_gives : (rs : List (Registration H)) (answer : Option (ℕ × Result O AllocError)) → hook_for id (map on_ctx rs) ≡ Some h → IsAnswerOfFirst gives event (filter (is_on id) rs) answer → IfSome answer (λ ran. gives h event ran.1)
   first_gives [] answer is of = cc
-  first_gives (r ∷ rs) answer is of = ⊎_elim
-      (λ (y : same r.ctx id ≡ true). taken answer r.hook (same_Some r.hook h (rw y at is)) r.id (rw y at of))
-      (λ (n : same r.ctx id ≡ false). first_gives rs answer (rw n at is) (rw n at of))
-      (cases_Bool (same r.ctx id))
-    where
-      taken : (answer : Option (ℕ × Result O AllocError)) (g : H) → g ≡ h → (n : ℕ) → IsSomeAnd answer (λ ran. (ran.0 ≡ n) × gives g event ran.1) → IfSome answer (λ ran. gives h event ran.1)
-      taken None g e n of = absurd of
-      taken (Some a) g e n of = subst (λ x. gives x event a.1) e of.1
+  first_gives (r ∷ rs) answer is of = grind (arith, first_gives rs answer)
 
   pub fired_gives : (f : AfterFuncs H) (hooks : List (Operation H)) → HooksStand f hooks → due hooks ≡ [] → (answer : Option (ℕ × Result O AllocError)) → hook_for id (map on_ctx f.waiting.items) ≡ Some h
       → IsAnswerOfFirst gives event (due (Fire id ∷ hooks)) answer → IfSome answer (λ ran. gives h event ran.1)
-  fired_gives f hooks hs none answer is of =
-      first_gives (waiting hooks) answer (subst (λ rs. hook_for id (map on_ctx rs) ≡ Some h) hs.waiting_is is)
-      (subst (λ ds. IsAnswerOfFirst gives event ds answer) (ap (λ ds. ds ++ filter (is_on id) (waiting hooks)) none) of)
+  fired_gives f hooks hs none answer is of = grind (arith, nat_tests, first_gives)

@@ -1,25 +1,10 @@
 -- A call or a connection that is gone.
-use Rattle.std.proofs.Common.{◌≡◌, refl, sym, ap, ◌∙◌, append-nil, append_assoc, List, [], ◌∷◌, ◌++◌, Option, Some, None, true, false, ⊎_elim, subst}
-use Rattle.std.specs.Prelude.{not, is_some, map, filter, All, unwrap_or, option_and_then, option_map}
-use Rattle.std.specs.List.{list_any}
-use Rattle.std.proofs.lemmas.Bool.{cases_Bool, or_parts, or_right}
-use Rattle.std.proofs.lemmas.List.Elements.{All-filter, All-weaker}
-use Rattle.std.proofs.Math.Bool.{or-false, or-true}
-use Rattle.std.proofs.lemmas.Option.{same_Some}
-use Rattle.context_tree.specs.declared.node.Kind.{Kind}
-use Rattle.context_tree.specs.declared.node.Kind.TheVariants.{Cancel, Value}
-use Rattle.context_tree.specs.Context.{Id, same, Releases, held, nearest, line, parent_of}
-use Rattle.context_tree.specs.Tree.{TreeValue, StandsFor, is_among}
-use Rattle.after_funcs.specs.declared.callbacks.AfterFuncs.{AfterFuncs}
-use Rattle.gateway_model.specs.declared.id.CallId.{CallId}
-use Rattle.after_funcs.specs.Hooks.{Operation, waiting, due}
+use Rattle.call_contexts.proofs.Names.{◌≡◌, refl, sym, ap, ◌∙◌, append_assoc, List, [], ◌∷◌, ◌++◌, Option, Some, None, true, false, ⊎_elim, subst, is_some, arith, not, map, filter, All, unwrap_or, option_map, list_any, cases_Bool, or_right, All-filter, All-weaker, or-false, or-true, same_Some, Kind, Cancel, Value, Id, same, Releases, held, nearest, line, parent_of, TreeValue, StandsFor, is_among, AfterFuncs, CallId, Operation, waiting, due, Life, seen, seen_conn, seen_call, cause_in, ended_call, without, closed, request_for, AreApart, TreeLaws, Distinct, IsSound, IsLife, IsConn, IsHolder, IsUnhanded, IsFree, AreFree, Touches, all_ids, ids_in, ids_of, twig_ids, kind_of, contexts, let_go, hook_of, kept_of, life_at, life_for, NoTwo, same_ctx, why, nat_tests}
+use Rattle.std.proofs.Common.{append-nil}
 use Rattle.after_funcs.specs.Stands.{StandsFor as HooksStand}
-use Rattle.call_contexts.specs.declared.life.Life.{Life}
-use Rattle.call_contexts.specs.Standing.{seen, seen_conn, seen_call, cause_in, ended_call, value_in, without, closed, request_for, AreApart}
-use Rattle.call_contexts.specs.Sound.{TreeLaws, Distinct, IsSound, IsLife, IsConn, IsHolder, IsUnhanded, IsFree, AreFree, Touches, all_ids, ids_in, ids_of, twig_ids, kind_of, contexts, let_go, hook_of, kept_of, life_at, life_for, NoTwo, same_ctx, why}
 use Rattle.call_contexts.proofs.Trees.{same_refl, same_true, not_both, shown, touch_released, released_held, call_value}
 use Rattle.call_contexts.proofs.Making.{go_touches, gone_unheld}
-use Rattle.call_contexts.proofs.Lists.{found_for, any_map, all_stay, all_none, both_all, found_in, found_any}
+use Rattle.call_contexts.proofs.Lists.{found_for, any_map, all_stay, all_none, both_all, found_in}
 use Rattle.call_contexts.proofs.Hooking.{filter_map_swap}
 use Rattle.call_contexts.proofs.Distinct.{ConnPlace, Far, LifePlace, among_rest, calls_apart, conn_place, conns_part, distinct_less, gone_from, life_place, none_between}
 use Rattle.call_contexts.proofs.Seeing.{asked}
@@ -220,10 +205,7 @@ module _ {C V H : Type 0} (laws : TreeLaws C V) {f : AfterFuncs H} {base : Id} {
     close_touches = touch_released id s.past
 
     close_else : (x : Id) → is_among x (all_ids s.root base (filter (λ c. not (same c id)) conns) calls) ≡ false → held x (Releases id ∷ s.past) ≡ None
-    close_else x gone = ⊎_elim
-        (λ (y : same x id ≡ true). subst (λ z. held z (Releases id ∷ s.past) ≡ None) (sym (same_true x id y)) (released_held s.past id))
-        (λ (n : same x id ≡ false). let off : is_among x (id ∷ []) ≡ false = or-false (same x id) ∙ n in close_touches.held_is x off ∙ s.none_else x (none_other x off gone))
-        (cases_Bool (same x id))
+    close_else x gone = grind (arith, nat_tests, same_true, released_held, or-false, close_touches, none_other)
 
     pub sound_closed : IsSound new f base (filter (λ c. not (same c id)) conns) calls
     sound_closed = framed_sound laws s (id ∷ []) (Releases id ∷ s.past) new st close_touches left calls conns_left s.calls_are known_left off_left f s.hooks left calls s.hooks_are
@@ -247,15 +229,11 @@ module _ {C V H : Type 0} {f : AfterFuncs H} {base : Id} {conns : List Id} {call
 
   -- the request id that the tree tells is the one that is seen
   pub request_told : nearest 0 (line l.ctx s.past) ≡ request_for id (map (seen_call old.slots) calls)
-  request_told =
-      call_value s.laws s.past s.tree_is.contexts.lawful s.root base s.root_is s.base_is l.conn life_is.conn_is l.ctx l.holder life_is.holder_is old s.tree_is l.deadline life_is.call_is
-      ∙ sym (asked old.slots (λ c. c.request_id) id calls ∙ ap (option_and_then (λ (m : Life). option_and_then (value_in old.slots) m.holder)) found)
+  request_told = grind (arith, nat_tests, call_value, life_is, asked)
 
   -- the tree tells what ended the call as it is seen
   pub ended_told : why l.ctx s.past ≡ ended_call id (map (seen_call old.slots) calls)
-  ended_told =
-      sym (shown old s.past l.ctx (kind_of (unwrap_or l.holder l.conn) l.deadline) s.tree_is life_is.call_is)
-      ∙ sym (asked old.slots (λ c. c.ended) id calls ∙ ap (option_and_then (λ (m : Life). cause_in old.slots m.ctx)) found)
+  ended_told = grind (arith, nat_tests, shown, life_is, asked)
 
 -- the answer about a context that is held
 pub asked_held : {K A : Type 0} (o : Option K) (a : A) → is_some o ≡ true → option_map (λ kind. a) o ≡ Some a

@@ -1,3 +1,4 @@
+pub mod Names
 pub mod Trees
 pub mod Making
 pub mod Distinct

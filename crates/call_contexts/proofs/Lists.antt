@@ -1,15 +1,6 @@
 -- Lists of calls and of connections.
-use Rattle.std.proofs.Common.{◌≡◌, refl, sym, ap, ◌∙◌, List, [], ◌∷◌, Some, None, Bool, true, false, ⊎_elim, subst}
-use Rattle.std.specs.Prelude.{◌||◌, not, map, filter, All, Result, Ok, Err, IfOk, OnErr}
-use Rattle.std.specs.List.{list_any}
-use Rattle.std.proofs.lemmas.Bool.{cases_Bool, or_left, or_parts, or_right}
-use Rattle.std.proofs.lemmas.List.Elements.{All-nil, All-cons, All-head, All-tail}
-use Rattle.std.proofs.lemmas.Option.{same_Some}
-use Rattle.context_tree.specs.Context.{Id, same}
-use Rattle.gateway_model.specs.declared.id.CallId.{CallId}
+use Rattle.call_contexts.proofs.Names.{◌≡◌, refl, sym, ap, ◌∙◌, List, [], ◌∷◌, Some, None, Bool, true, false, ⊎_elim, subst, arith, ◌||◌, not, map, filter, All, Result, Ok, Err, IfOk, OnErr, list_any, cases_Bool, or_left, or_parts, or_right, All-nil, All-cons, All-head, All-tail, same_Some, Id, same, CallId, Life, same_ctx, life_at, life_for}
 use Rattle.gateway_model.specs.Past.{is_call}
-use Rattle.call_contexts.specs.declared.life.Life.{Life}
-use Rattle.call_contexts.specs.Sound.{NoTwo, same_ctx, life_at, life_for}
 use Rattle.call_contexts.proofs.Trees.{same_true}
 
 pub any_map : {A B : Type 0} (p : B → Bool) (f : A → B) (xs : List A) → list_any p (map f xs) ≡ list_any (λ x. p (f x)) xs
@@ -30,15 +21,6 @@ pub both_all : {A : Type 0} (P Q : A → Type 0) (xs : List A) → All P xs → 
 both_all P Q [] ps qs = All-nil (λ x. P x × Q x)
 both_all P Q (x ∷ xs) ps qs = All-cons (λ x. P x × Q x) x xs (All-head P x xs ps, All-head Q x xs qs) (both_all P Q xs (All-tail P x xs ps) (All-tail Q x xs qs))
 
-pub any_kept : {A : Type 0} (p q : A → Bool) (xs : List A) → list_any p xs ≡ false → list_any p (filter q xs) ≡ false
-any_kept p q [] is = refl
-any_kept p q (x ∷ xs) is =
-    let two = or_parts (p x) (list_any p xs) is in
-    ⊎_elim
-    (λ (y : q x ≡ true). rw (y, two.0) (any_kept p q xs two.1))
-    (λ (n : q x ≡ false). rw n (any_kept p q xs two.1))
-    (cases_Bool (q x))
-
 -- one of these passes a test; what else it passes, one of these does
 pub picked : {A : Type 0} (P : A → Type 0) (p : A → Bool) (xs : List A) → All P xs → list_any p xs ≡ true
     → (a : A) × P a × (p a ≡ true) × ((q : A → Bool) → q a ≡ true → list_any q xs ≡ true)
@@ -51,13 +33,6 @@ picked P p (x ∷ xs) all is = ⊎_elim
     (cases_Bool (p x))
 
 -- ---- no two
-
-pub no_two_kept : {A : Type 0} (r : A → A → Bool) (q : A → Bool) (ls : List A) → NoTwo r ls → NoTwo r (filter q ls)
-no_two_kept r q [] all = tt
-no_two_kept r q (l ∷ ls) all = ⊎_elim
-    (λ (y : q l ≡ true). rw y (any_kept (r l) q ls all.0, no_two_kept r q ls all.1))
-    (λ (n : q l ≡ false). rw n (no_two_kept r q ls all.1))
-    (cases_Bool (q l))
 
 pub unmapped : {A B : Type 0} (P : B → Type 0) (f : A → B) (ls : List A) → All P (map f ls) → All (λ l. P (f l)) ls
 unmapped P f [] all = All-nil (λ l. P (f l))
@@ -101,17 +76,11 @@ module _ (id : Id) where
 
   pub found_any : (l : Life) (ls : List Life) → life_at id ls ≡ Some l → list_any (λ m. same m.ctx id) ls ≡ true
   found_any l [] is = cc
-  found_any l (m ∷ ms) is = ⊎_elim
-      (λ (y : same m.ctx id ≡ true). rw y refl)
-      (λ (n : same m.ctx id ≡ false). rw n (found_any l ms (rw n at is)))
-      (cases_Bool (same m.ctx id))
+  found_any l (m ∷ ms) is = grind (arith, found_any l ms)
 
   pub none_found : (ls : List Life) → life_at id ls ≡ None → list_any (λ m. same m.ctx id) ls ≡ false
   none_found [] is = refl
-  none_found (m ∷ ms) is = ⊎_elim
-      (λ (y : same m.ctx id ≡ true). let bad : Some m ≡ None = rw y at is in cc)
-      (λ (n : same m.ctx id ≡ false). rw n (none_found ms (rw n at is)))
-      (cases_Bool (same m.ctx id))
+  none_found (m ∷ ms) is = grind (arith, none_found ms)
 
   -- the others of different contexts
   pub gone_first : (m : Life) (ms : List Life) → list_any (same_ctx m) ms ≡ false → same m.ctx id ≡ true → list_any (λ k. same k.ctx id) ms ≡ false

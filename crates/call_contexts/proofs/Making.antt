@@ -1,24 +1,12 @@
 -- The contexts of a call, as they are made.
-use Rattle.std.proofs.Common.{◌≡◌, refl, sym, ap, ◌∙◌, ℕ, List, [], ◌∷◌, Option, Some, None, Bool, true, false, ⊎_elim, subst}
-use Rattle.std.specs.Prelude.{◌||◌, is_some, nat_le, if◌then◌else◌, length, option_map}
-use Rattle.std.specs.Option.{option_or}
-use Rattle.std.proofs.lemmas.Bool.{cases_Bool, or_parts}
-use Rattle.std.proofs.Math.Bool.{or-false}
-use Rattle.context_tree.specs.declared.node.Kind.{Kind}
-use Rattle.context_tree.specs.declared.node.Kind.TheVariants.{Value}
-use Rattle.context_tree.specs.Context.{Id, Ended, same, Makes, Releases, expiry, held, inherited, ending}
-use Rattle.call_contexts.specs.Standing.{if_due}
-use Rattle.context_tree.specs.Tree.{TreeValue, StandsFor, IsLawful, is_among}
-use Rattle.call_contexts.specs.Sound.{Op, TreeLaws, IsFree, AreFree, IsHolder, Touches, StandsAlike, contexts, kind_of, moment_of, with_holder, with_call, let_go, parent_of_call, why}
-use Rattle.call_contexts.proofs.Trees.{same_refl, same_true, same_turned, far_one, far_new, touch_made, touch_released, touch_next, touch_more, touch_none, free_alike, made_held, released_held, new_free, made_and_released}
+use Rattle.call_contexts.proofs.Names.{◌≡◌, refl, ◌∙◌, ℕ, List, [], ◌∷◌, Option, Some, None, Bool, true, false, is_some, length, arith, nat_le, if◌then◌else◌, option_map, option_or, Kind, Value, Id, Ended, same, Makes, Releases, expiry, held, inherited, ending, if_due, TreeValue, StandsFor, IsLawful, is_among, Op, TreeLaws, IsFree, AreFree, IsHolder, Touches, StandsAlike, contexts, kind_of, moment_of, with_holder, with_call, let_go, parent_of_call, why, nat_tests}
+use Rattle.call_contexts.proofs.Trees.{same_refl, same_turned, far_one, far_new, touch_made, touch_released, touch_next, touch_more, touch_none, free_alike, made_held, released_held, new_free, made_and_released}
 
 -- what ended one from the start: what had ended its parent, or else its own deadline
 born_by : {C D : Type 0} (turn : ℕ) (id : Id) (exp : D → Ended C) (o : Option (Ended C)) (b : Bool) (d : D)
     → option_map (λ e. e.cause) (option_or (option_map (inherited turn id) o) (option_map exp (if b then Some d else None)))
     ≡ option_or (option_map (λ e. e.cause) o) (if b then Some (exp d).cause else None)
-born_by turn id exp None true d = refl
-born_by turn id exp None false d = refl
-born_by turn id exp (Some e) b d = refl
+born_by turn id exp o b d = grind (arith, nat_tests)
 
 born_plain : {C : Type 0} (turn : ℕ) (id : Id) (o : Option (Ended C)) → option_map (λ e. e.cause) (option_or (option_map (inherited turn id) o) None) ≡ option_or (option_map (λ e. e.cause) o) None
 born_plain turn id None = refl
@@ -33,10 +21,6 @@ module _ {C V : Type 0} (past : List (Op C V)) where
   pub born_ended : (id parent : Id) (at : Option ℕ) (now : ℕ) → why id (Makes id (kind_of parent at) (moment_of at now) ∷ past) ≡ option_or (why parent past) (if_due now at)
   born_ended id parent None now = rw (same_refl id) (born_plain (length past) id (ending parent past))
   born_ended id parent (Some at) now = rw (same_refl id) (born_by (length past) id (expiry (length past)) (ending parent past) (nat_le at now) _)
-
-  -- one that has a request id has ended by what had ended its parent
-  pub holder_ended : (id conn : Id) (request_id : V) → why id (Makes id (Value conn 0 request_id) 0 ∷ past) ≡ why conn past
-  holder_ended id conn request_id = rw (same_refl id) (born_plain (length past) id (ending conn past) ∙ or_none (why conn past))
 
 module _ {C V : Type 0} (laws : TreeLaws C V) (ctx conn : Id) (at : Option ℕ) (now : ℕ) (past : List (Op C V)) where
   -- both contexts are new
@@ -53,13 +37,7 @@ module _ {C V : Type 0} (laws : TreeLaws C V) (ctx conn : Id) (at : Option ℕ) 
 
   -- the other contexts stay
   pub call_touches : (holder : Option Id) (request_id : Option V) → is_some holder ≡ is_some request_id → Touches (contexts ctx holder) past (with_call ctx holder conn at now request_id past)
-  call_touches None request_id agree = touch_made ctx (kind_of conn at) (moment_of at now) past
-  call_touches (Some holder) None agree = cc
-  call_touches (Some holder) (Some r) agree =
-      touch_next (ctx ∷ holder ∷ []) past (Makes holder (Value conn 0 r) 0 ∷ past) (with_call ctx (Some holder) conn at now (Some r) past)
-      (touch_more (holder ∷ []) (ctx ∷ holder ∷ []) past (Makes holder (Value conn 0 r) 0 ∷ past) (λ x far. (or_parts (same x ctx) (same x holder || false) far).1) (touch_made holder (Value conn 0 r) 0 past))
-      (touch_more (ctx ∷ []) (ctx ∷ holder ∷ []) (Makes holder (Value conn 0 r) 0 ∷ past) (with_call ctx (Some holder) conn at now (Some r) past)
-      (λ x far. or-false (same x ctx) ∙ (or_parts (same x ctx) (same x holder || false) far).0) (touch_made ctx (kind_of holder at) (moment_of at now) (Makes holder (Value conn 0 r) 0 ∷ past)))
+  call_touches holder request_id h2 = grind (arith, nat_tests)
 
   -- what the call has
   pub call_held : (holder : Option Id) (request_id : Option V) → held ctx (with_call ctx holder conn at now request_id past) ≡ Some (kind_of (parent_of_call holder conn) at)
@@ -77,10 +55,7 @@ module _ {C V : Type 0} (laws : TreeLaws C V) (ctx conn : Id) (at : Option ℕ) 
   -- the call has ended from the start by what had ended its connection, or where its deadline is reached
   pub call_ended : (holder : Option Id) (request_id : Option V) → is_some holder ≡ is_some request_id
       → why ctx (with_call ctx holder conn at now request_id past) ≡ option_or (why conn past) (if_due now at)
-  call_ended None request_id agree = born_ended past ctx conn at now
-  call_ended (Some holder) None agree = cc
-  call_ended (Some holder) (Some r) agree =
-      born_ended (Makes holder (Value conn 0 r) 0 ∷ past) ctx holder at now ∙ ap (λ o. option_or o (if_due now at)) (holder_ended past holder conn r)
+  call_ended holder request_id h2 = grind (arith, nat_tests)
 
   -- the contexts of a call that were just made are free, and all is as before once they are let go of
   pub call_free : (holder : Option Id) (request_id : Option V) → is_some holder ≡ is_some request_id → IsLawful (with_call ctx holder conn at now request_id past)
@@ -114,29 +89,13 @@ module _ {C V : Type 0} (laws : TreeLaws C V) (ctx conn : Id) (at : Option ℕ) 
 
 module _ {C V : Type 0} (ctx : Id) (past : List (Op C V)) where
   pub go_touches : (holder : Option Id) → Touches (contexts ctx holder) past (let_go ctx holder past)
-  go_touches None = touch_released ctx past
-  go_touches (Some holder) =
-      touch_next (ctx ∷ holder ∷ []) past (Releases ctx ∷ past) (Releases holder ∷ Releases ctx ∷ past)
-      (touch_more (ctx ∷ []) (ctx ∷ holder ∷ []) past (Releases ctx ∷ past) (λ x far. or-false (same x ctx) ∙ (or_parts (same x ctx) (same x holder || false) far).0) (touch_released ctx past))
-      (touch_more (holder ∷ []) (ctx ∷ holder ∷ []) (Releases ctx ∷ past) (Releases holder ∷ Releases ctx ∷ past) (λ x far. (or_parts (same x ctx) (same x holder || false) far).1) (touch_released holder (Releases ctx ∷ past)))
+  go_touches holder = grind (arith, nat_tests)
 
   pub gone_unheld : (holder : Option Id) (x : Id) → is_among x (contexts ctx holder) ≡ true → held x (let_go ctx holder past) ≡ None
-  gone_unheld None x among =
-      let e : x ≡ ctx = same_true x ctx (sym (or-false (same x ctx)) ∙ among) in
-      subst (λ z. held z (Releases ctx ∷ past) ≡ None) (sym e) (released_held past ctx)
-  gone_unheld (Some holder) x among = ⊎_elim
-      (λ (y : same holder x ≡ true). rw y refl)
-      (λ (n : same holder x ≡ false). let e : x ≡ ctx = same_true x ctx (sym (or-false (same x ctx)) ∙ ap (λ b. same x ctx || b) (sym (or-false (same x holder) ∙ same_turned x holder ∙ n)) ∙ among) in
-      rw n (subst (λ z. held z (Releases ctx ∷ past) ≡ None) (sym e) (released_held past ctx)))
-      (cases_Bool (same holder x))
+  gone_unheld holder x h2 = grind (arith, nat_tests)
 
 -- ---- a call's context is refused: the one that has the request id is let go of again
 
 pub made_alike : {C V : Type 0} (laws : TreeLaws C V) (conn : Id) (past : List (Op C V)) (mid new : TreeValue C V) (h : Id) (r : V) → StandsFor mid (Makes h (Value conn 0 r) 0 ∷ past)
     → (IsFree h (Makes h (Value conn 0 r) 0 ∷ past) → StandsFor new (Releases h ∷ Makes h (Value conn 0 r) 0 ∷ past)) → StandsAlike new past
-made_alike laws conn past mid new h r st goes = record {
-  later = Releases h ∷ Makes h (Value conn 0 r) 0 ∷ past;
-  stands = goes (new_free laws h (Value conn 0 r) 0 past st.contexts.lawful);
-  alike = made_and_released laws h (Value conn 0 r) 0 past st.contexts.lawful;
-  handed_is = λ x. refl;
-}
+made_alike laws conn past mid new h r st goes = grind (arith, nat_tests, new_free, made_and_released)

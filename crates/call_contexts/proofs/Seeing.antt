@@ -1,35 +1,16 @@
 -- What is seen after a moment, a cancel and a drain.
-use Rattle.std.proofs.Common.{◌≡◌, refl, sym, ap, ◌∙◌, arith, ℕ, ◌≤◌, List, [], ◌∷◌, Option, Some, None, Bool, true, false, ⊎_elim, is_none}
-use Rattle.std.specs.List.{find}
-use Rattle.std.specs.Prelude.{◌&&◌, ◌||◌, ◌==◌, min, is_some, map, All, option_map, option_and_then, unwrap_or}
-use Rattle.std.specs.Option.{option_or}
-use Rattle.std.proofs.lemmas.List.Elements.{All-nil, All-head, All-map, All-tail, All-weaker}
-use Rattle.std.proofs.lemmas.Bool.{cases_Bool, or_parts}
-use Rattle.std.proofs.Math.Bool.{or-false, or-true}
+use Rattle.call_contexts.proofs.Names.{◌≡◌, refl, sym, ap, ◌∙◌, arith, ℕ, ◌≤◌, List, [], ◌∷◌, Option, Some, None, Bool, true, false, ⊎_elim, find, ◌&&◌, ◌||◌, ◌==◌, min, map, All, option_map, option_and_then, unwrap_or, option_or, All-head, All-map, All-tail, All-weaker, cases_Bool, or-true, Kind, Background, Cancel, Deadline, Value, Id, Ended, same, Makes, Cancels, Advances, held, chain, deadline, sooner, has_cancel, ending, TreeValue, StandsFor, IsFirstDeadline, IsNotAfter, IsLawful, is_among, is_ended_by_cancel, AfterFuncs, CallId, Life, Twig, Conn, Call, IsNoSooner, AreNoSooner, Slots, cause_in, value_in, seen, seen_conn, seen_call, Branch, seen_branch, seen_branches, call_for, ctx_for, first_of, ends_call, ends_branch, expires_branch, expires_call, ends_conn, if_cancelled, if_due, is_conn, ended_conn, expired, all_ended, Op, TreeLaws, IsSound, IsLife, IsConn, IsHolder, IsTwig, kind_of, life_for, IsUnhanded, why, nat_tests}
 use Rattle.context_tree.specs.declared.error.Cause.{Cause}
 use Rattle.context_tree.specs.declared.error.Cause.TheVariants.{Given}
-use Rattle.context_tree.specs.declared.node.Kind.{Kind}
-use Rattle.context_tree.specs.declared.node.Kind.TheVariants.{Background, Cancel, Deadline, Value}
-use Rattle.context_tree.specs.Context.{Id, Ended, same, Makes, Cancels, Advances, held, chain, deadline, sooner, has_cancel, ending}
-use Rattle.context_tree.specs.Tree.{TreeValue, StandsFor, IsFirstDeadline, IsNotAfter, IsLawful, is_among, is_ended_by_cancel}
-use Rattle.after_funcs.specs.declared.callbacks.AfterFuncs.{AfterFuncs}
-use Rattle.gateway_model.specs.declared.id.CallId.{CallId}
 use Rattle.gateway_model.specs.Past.{is_call}
 use Rattle.after_funcs.specs.Stands.{StandsFor as HooksStand}
-use Rattle.call_contexts.specs.declared.life.Life.{Life}
-use Rattle.call_contexts.specs.declared.twig.Twig.{Twig}
-use Rattle.call_contexts.specs.Standing.{Conn, Call, IsNoSooner, AreNoSooner, Slots, cause_in, value_in, seen, seen_conn, seen_call, Branch, seen_branch, seen_branches, call_for, ctx_for, first_of, ends_call, ends_branch, expires_branch, expires_call, ends_conn, if_cancelled, if_due, is_conn, ended_conn, expired, all_ended}
-use Rattle.call_contexts.specs.Sound.{Op, TreeLaws, IsSound, IsLife, IsConn, IsHolder, IsTwig, all_ids, kind_of, life_for, IsUnhanded, why}
-use Rattle.call_contexts.proofs.Trees.{same_refl, same_true, same_turned, shown, shown_request, advanced, due_on, struck, base_chain, conn_chain, call_deadline, call_hit, call_due, twig_hit, twig_due, twig_deadline, far_new, made_held}
+use Rattle.call_contexts.proofs.Trees.{same_refl, same_turned, shown, advanced, due_on, base_chain, conn_chain, call_deadline, call_hit, call_due, twig_hit, twig_due, twig_deadline, made_held}
 use Rattle.call_contexts.proofs.Family.{among_in}
 use Rattle.call_contexts.proofs.Making.{or_none}
 
 pub maps_agree : {A B : Type 0} (f g : A → B) (xs : List A) → All (λ x. f x ≡ g x) xs → map f xs ≡ map g xs
 maps_agree f g [] all = refl
-maps_agree f g (x ∷ xs) all =
-    let here : f x ≡ g x = All-head (λ y. f y ≡ g y) x xs all in
-    let rest : map f xs ≡ map g xs = maps_agree f g xs (All-tail (λ y. f y ≡ g y) x xs all) in
-    rw (here, rest) refl
+maps_agree f g (x ∷ xs) all = search (arith, nat_tests, maps_agree f g xs, All-head, All-tail)
 
 map_twice : {A B C : Type 0} (f : B → C) (g : A → B) (xs : List A) → map (λ x. f (g x)) xs ≡ map f (map g xs)
 map_twice f g [] = refl
@@ -43,9 +24,7 @@ or_or None b c = refl
 or_or (Some a) b c = refl
 
 pub hit_base : (b r : Bool) → b ≡ false → ((b && true) || ((r && false) || false)) ≡ false
-hit_base true r is = cc
-hit_base false true is = refl
-hit_base false false is = refl
+hit_base b r h2 = grind (arith, nat_tests)
 
 pub hit_conn : (a b r : Bool) → b ≡ false → ((a && true) || ((b && true) || ((r && false) || false))) ≡ a
 hit_conn true b r is = refl
@@ -81,18 +60,12 @@ module _ {C V : Type 0} where
 
   pub ended_found : (slots : Slots C V) (conns : List Id) (id : Id) → is_among id conns ≡ true → ended_conn id (map (seen_conn slots) conns) ≡ cause_in slots id
   ended_found slots [] id is = cc
-  ended_found slots (c ∷ cs) id is = ⊎_elim
-      (λ (y : same c id ≡ true). rw y (ap (cause_in slots) (same_true c id y)))
-      (λ (n : same c id ≡ false). let turned : same id c ≡ false = same_turned id c ∙ n in rw n (ended_found slots cs id (rw turned at is)))
-      (cases_Bool (same c id))
+  ended_found slots (c ∷ cs) id is = grind (arith, ended_found slots cs id)
 
   pub seen_as : (slots : Slots C V) (base : Id) (conns : List Id) (calls : List Life) (d : Option (Cause C)) (cs : List (Conn C)) (ls : List (Call C V))
       → cause_in slots base ≡ d → map (seen_conn slots) conns ≡ cs → map (seen_call slots) calls ≡ ls
       → seen slots base conns calls ≡ record { drained = d; conns = cs; calls = ls }
-  seen_as slots base conns calls d cs ls b c l =
-      ap (λ x. record { drained = x; conns = map (seen_conn slots) conns; calls = map (seen_call slots) calls }) b
-      ∙ ap (λ x. record { drained = d; conns = x; calls = map (seen_call slots) calls }) c
-      ∙ ap (λ x. record { drained = d; conns = cs; calls = x }) l
+  seen_as slots base conns calls d cs ls b c l = cc
 
   -- what is asked of a call that is seen is asked of the one that is kept
   pub asked : {A : Type 0} (slots : Slots C V) (q : Call C V → Option A) (id : CallId) (ls : List Life)
@@ -106,10 +79,7 @@ module _ {C V : Type 0} where
 
   pub first_kept : (slots : Slots C V) (number : ℕ) (ls : List Life) → first_of number (map (seen_call slots) ls) ≡ option_map (λ l. l.id) (find (λ l. l.id.conn == number) ls)
   first_kept slots number [] = refl
-  first_kept slots number (l ∷ ls) = ⊎_elim
-      (λ (y : (l.id.conn == number) ≡ true). rw y refl)
-      (λ (n : (l.id.conn == number) ≡ false). rw n (first_kept slots number ls))
-      (cases_Bool (l.id.conn == number))
+  first_kept slots number (l ∷ ls) = grind (arith, first_kept slots number ls)
 
   pub conn_as : (slots : Slots C V) (x : Id) (e : Option (Cause C)) → cause_in slots x ≡ e → seen_conn slots x ≡ record { id = x; ended = e }
   conn_as slots x e is = ap (λ b. record { id = x; ended = b }) is
@@ -119,18 +89,13 @@ module _ {C V : Type 0} where
 
   pub call_as : (slots : Slots C V) (l : Life) (r : Option V) (e : Option (Cause C)) (bs : List (Branch C)) → option_and_then (value_in slots) l.holder ≡ r → cause_in slots l.ctx ≡ e
       → seen_branches slots l.twigs ≡ bs → seen_call slots l ≡ record { name = l.id; id = l.ctx; conn = l.conn; deadline = l.deadline; request_id = r; ended = e; branches = bs }
-  call_as slots l r e bs rs es bss =
-      ap (λ q. record { name = l.id; id = l.ctx; conn = l.conn; deadline = l.deadline; request_id = q; ended = cause_in slots l.ctx; branches = seen_branches slots l.twigs }) rs
-      ∙ ap (λ b. record { name = l.id; id = l.ctx; conn = l.conn; deadline = l.deadline; request_id = r; ended = b; branches = seen_branches slots l.twigs }) es
-      ∙ ap (λ b. record { name = l.id; id = l.ctx; conn = l.conn; deadline = l.deadline; request_id = r; ended = e; branches = b }) bss
+  call_as slots l r e bs rs es bss = cc
 
   -- a request id is seen as before, where its context is still held
   pub request_stays : (old new : TreeValue C V) (past later : List (Op C V)) (conn : Id) → StandsFor old past → StandsFor new later → (holder : Option Id)
       → ((x : Id) (r : V) → holder ≡ Some x → held x past ≡ Some (Value conn 0 r) → held x later ≡ Some (Value conn 0 r))
       → IsHolder past conn holder → option_and_then (value_in new.slots) holder ≡ option_and_then (value_in old.slots) holder
-  request_stays old new past later conn was st None keeps is = refl
-  request_stays old new past later conn was st (Some x) keeps is =
-      shown_request new later x conn is.0 st (keeps x is.0 refl is.1) ∙ sym (shown_request old past x conn is.0 was is.1)
+  request_stays old new past later conn h5 h6 holder h8 h9 = grind (arith, nat_tests)
 
 -- ---- a new tree
 
@@ -139,36 +104,8 @@ module _ {C V : Type 0} (laws : TreeLaws C V) (root base : Id) (t : TreeValue C 
   base_live =
       shown t _ base (Cancel root) st (made_held (Makes root Background 0 ∷ []) base (Cancel root) 0) ∙ rw (same_refl base, same_refl root) refl
 
-  not_made : (x : Id) → is_among x (all_ids root base [] []) ≡ false → held {C = C} {V = V} x (Makes base (Cancel root) 0 ∷ Makes root Background 0 ∷ []) ≡ None
-  not_made x far =
-      let r = or_parts (same x root) (same x base || false) far in
-      let one : same root x ≡ false = same_turned root x ∙ r.0 in
-      let two : same base x ≡ false = same_turned base x ∙ (or_parts (same x base) false r.1).0 in
-      rw (two, one) refl
-
-  base_root : same base root ≡ false
-  base_root = far_new base root Background (Makes root Background 0 ∷ [])
-      (laws.new_unheld (Makes root Background 0 ∷ []) base (Cancel root) 0 st.contexts.lawful) (made_held [] root Background 0)
-
   pub new_sound : {H : Type 0} (f : AfterFuncs H) → HooksStand f [] → IsSound t f base [] []
-  new_sound f hs = record {
-    laws = laws;
-    past = Makes base (Cancel root) 0 ∷ Makes root Background 0 ∷ [];
-    hooks = [];
-    tree_is = st;
-    hooks_are = hs;
-    root = root;
-    root_is = rw base_root (made_held [] root Background 0);
-    base_is = made_held (Makes root Background 0 ∷ []) base (Cancel root) 0;
-    conns_are = All-nil _;
-    calls_are = All-nil _;
-    known = All-nil _;
-    none_else = not_made;
-    distinct = (or-false (same root base) ∙ same_turned root base ∙ base_root, (refl, tt));
-    hook_waits = refl;
-    none_due = refl;
-    unhanded = All-nil _;
-  }
+  new_sound f hs = search arith
 
 module _ {C V H : Type 0} (laws : TreeLaws C V) {f : AfterFuncs H} {base : Id} {conns : List Id} {calls : List Life} {old : TreeValue C V} (s : IsSound old f base conns calls) where
   pub lawful : IsLawful s.past
@@ -182,36 +119,9 @@ module _ {C V H : Type 0} (laws : TreeLaws C V) {f : AfterFuncs H} {base : Id} {
   -- ---- no context is made or let go of
 
   module _ (later : List (Op C V)) (same_held : (x : Id) → held x later ≡ held x s.past) where
-    holder_later : (conn : Id) (holder : Option Id) → IsHolder s.past conn holder → IsHolder later conn holder
-    holder_later conn None is = tt
-    holder_later conn (Some x) is = (is.0, same_held x ∙ is.1)
-
     pub sound_held : (f' : AfterFuncs H) → HooksStand f' s.hooks → (new : TreeValue C V) → StandsFor new later
         → All (IsUnhanded later) calls → IsSound new f' base conns calls
-    sound_held f' hs new st unhanded = record {
-      laws = laws;
-      past = later;
-      hooks = s.hooks;
-      tree_is = st;
-      hooks_are = hs;
-      root = s.root;
-      root_is = same_held s.root ∙ s.root_is;
-      base_is = same_held base ∙ s.base_is;
-      conns_are = All-weaker (IsConn base s.past) (IsConn base later) (λ c is. same_held c ∙ is) conns s.conns_are;
-      calls_are = All-weaker (IsLife s.past base) (IsLife later base)
-          (λ l is. record {
-            call_is = same_held l.ctx ∙ is.call_is;
-            holder_is = holder_later l.conn l.holder is.holder_is;
-            conn_is = same_held l.conn ∙ is.conn_is;
-            twigs_are = All-weaker (IsTwig s.past l.ctx) (IsTwig later l.ctx) (λ t t_is. same_held t.ctx ∙ t_is) l.twigs is.twigs_are;
-          }) calls s.calls_are;
-      known = s.known;
-      none_else = λ x none. same_held x ∙ s.none_else x none;
-      distinct = s.distinct;
-      hook_waits = s.hook_waits;
-      none_due = s.none_due;
-      unhanded = unhanded;
-    }
+    sound_held f' hs new st unhanded = grind arith
 
   -- ---- a moment
 
@@ -261,53 +171,17 @@ module _ {C V H : Type 0} (laws : TreeLaws C V) {f : AfterFuncs H} {base : Id} {
   abbrev pub IsStruck : C → TreeValue C V → Id → Id → Type 0
   IsStruck cause new id x = cause_in new.slots x ≡ option_or (cause_in old.slots x) (if_cancelled (has_cancel id (chain x s.past)) cause)
 
-  struck_now : (cause : C) (new : TreeValue C V) (id : Id) → StandsFor new (Cancels id (Some cause) ∷ s.past) → (x : Id) (kind : Kind C V) → held x s.past ≡ Some kind → IsStruck cause new id x
-  struck_now cause new id st x kind is = shown new (Cancels id (Some cause) ∷ s.past) x kind st is ∙ struck s.past x id cause
-      ∙ ap (λ o. option_or o (if_cancelled (has_cancel id (chain x s.past)) cause)) (sym (shown old s.past x kind s.tree_is is))
-
-  -- one that had ended ends nothing
-  struck_before : (cause : C) (new : TreeValue C V) (id : Id) → new.slots ≡ old.slots → is_some (ending id s.past) ≡ true → (x : Id) (kind : Kind C V) → held x s.past ≡ Some kind → IsStruck cause new id x
-  struck_before cause new id same_slots ended x kind is =
-      ap (λ slots. cause_in slots x) same_slots
-      ∙ already _ _ (λ h. ap is_some (shown old s.past x kind s.tree_is is) ∙ cause_some (ending x s.past) ∙ laws.ends_with s.past x id kind lawful is h ended)
-    where
-      already : (a : Option (Cause C)) (b : Bool) → (b ≡ true → is_some a ≡ true) → a ≡ option_or a (if_cancelled b cause)
-      already (Some a) b i = refl
-      already None true i = let bad : false ≡ true = i refl in cc
-      already None false i = refl
-
-      cause_some : (o : Option (Ended C)) → is_some (option_map (λ e. e.cause) o) ≡ is_some o
-      cause_some None = refl
-      cause_some (Some e) = refl
-
-  -- a cancel of one that is held and can be cancelled ends nothing where it had ended
-  had_ended : (id parent : Id) → held id s.past ≡ Some (Cancel parent) → is_ended_by_cancel id s.past ≡ false → is_some (ending id s.past) ≡ true
-  had_ended id parent is not_now = of_none _ (rw is at not_now)
-    where
-      of_none : {A : Type 0} (o : Option A) → is_none o ≡ false → is_some o ≡ true
-      of_none None n = cc
-      of_none (Some a) n = refl
-
   module _ (cause : C) (new : TreeValue C V) (answer : Bool) (id parent : Id) (id_is : held id s.past ≡ Some (Cancel parent))
       (answer_is : answer ≡ is_ended_by_cancel id s.past) (ends : answer ≡ true → StandsFor new (Cancels id (Some cause) ∷ s.past)) (stays : answer ≡ false → new.slots ≡ old.slots) where
     pub struck_after : (x : Id) (kind : Kind C V) → held x s.past ≡ Some kind → IsStruck cause new id x
-    struck_after x kind is = ⊎_elim
-        (λ (y : answer ≡ true). struck_now cause new id (ends y) x kind is)
-        (λ (n : answer ≡ false). struck_before cause new id (stays n) (had_ended id parent id_is (sym answer_is ∙ n)) x kind is)
-        (cases_Bool answer)
+    struck_after x kind is = search arith
 
     pub request_after : (l : Life) → IsLife s.past base l → option_and_then (value_in new.slots) l.holder ≡ option_and_then (value_in old.slots) l.holder
-    request_after l is = ⊎_elim
-        (λ (y : answer ≡ true). request_kept new (Cancels id (Some cause) ∷ s.past) (ends y) (λ x. refl) l is)
-        (λ (n : answer ≡ false). ap (λ slots. option_and_then (value_in slots) l.holder) (stays n))
-        (cases_Bool answer)
+    request_after l is = search arith
 
     -- a cancel leaves all sound
     pub sound_after_cancel : (answer ≡ false → StandsFor new s.past) → IsSound new f base conns calls
-    sound_after_cancel keeps = ⊎_elim
-        (λ (y : answer ≡ true). sound_held (Cancels id (Some cause) ∷ s.past) (λ x. refl) f s.hooks_are new (ends y) s.unhanded)
-        (λ (n : answer ≡ false). sound_held s.past (λ x. refl) f s.hooks_are new (keeps n) s.unhanded)
-        (cases_Bool answer)
+    sound_after_cancel keeps = search arith
 
   -- ---- the base is cancelled
 

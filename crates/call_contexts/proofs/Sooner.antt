@@ -1,19 +1,6 @@
 -- The branch of the least deadline, and of equal ones the first.
-use Rattle.std.proofs.Common.{◌≡◌, refl, sym, ap, ◌∙◌, ℕ, List, [], ◌∷◌, Option, Some, None, true, false, ⊎_elim, subst}
-use Rattle.std.specs.Prelude.{All, if◌then◌else◌, is_some, nat_le, map, option_map, option_and_then}
-use Rattle.std.proofs.lemmas.Bool.{cases_Bool}
-use Rattle.std.proofs.lemmas.List.Elements.{All-head, All-tail}
-use Rattle.std.proofs.lemmas.Option.{same_Some}
-use Rattle.context_tree.specs.declared.node.Kind.TheVariants.{Deadline}
-use Rattle.context_tree.specs.Context.{Id, same, held}
-use Rattle.context_tree.specs.Tree.{TreeValue}
-use Rattle.after_funcs.specs.declared.callbacks.AfterFuncs.{AfterFuncs}
-use Rattle.gateway_model.specs.declared.id.CallId.{CallId}
-use Rattle.call_contexts.specs.declared.life.Life.{Life}
+use Rattle.call_contexts.proofs.Names.{◌≡◌, refl, sym, ap, ◌∙◌, ℕ, List, [], ◌∷◌, Option, Some, None, true, false, ⊎_elim, subst, is_some, arith, All, if◌then◌else◌, nat_le, map, option_map, option_and_then, cases_Bool, All-head, All-tail, same_Some, Deadline, Id, held, TreeValue, AfterFuncs, CallId, Life, Twig, Slots, branch_before, cause_in, ended_branch, seen_branch, seen_branches, seen_call, sooner_branch, first_branch, if_before, IsLife, IsSound, IsTwig, sooner_twig, soonest_of, life_for, why, nat_tests}
 use Rattle.call_contexts.proofs.Seeing.{asked}
-use Rattle.call_contexts.specs.declared.twig.Twig.{Twig}
-use Rattle.call_contexts.specs.Standing.{Branch, Slots, branch_before, cause_in, ended_branch, seen_branch, seen_branches, seen_call, sooner_branch, first_branch, if_before}
-use Rattle.call_contexts.specs.Sound.{IsLife, IsSound, IsTwig, sooner_twig, soonest_of, life_for, why}
 use Rattle.call_contexts.proofs.Trees.{shown}
 use Rattle.call_contexts.proofs.Lists.{found_for}
 
@@ -38,20 +25,11 @@ module _ {C V : Type 0} (slots : Slots C V) where
   kept_before call o = option_and_then (λ (t : Twig). if is_some (cause_in slots t.ctx) then if_before call t.at t.branch else None) o
 
   branch_kept : (d : Option ℕ) (ts : List Twig) → branch_before d (seen_branches slots ts) ≡ kept_before d (soonest_of ts)
-  branch_kept d ts = ap (option_and_then (λ (b : Branch C). if is_some b.ended then if_before d b.deadline b.branch else None)) (soonest_seen ts) ∙ through (soonest_of ts)
-    where
-      through : (o : Option Twig)
-          → option_and_then (λ (b : Branch C). if is_some b.ended then if_before d b.deadline b.branch else None) (option_map (seen_branch slots) o) ≡ kept_before d o
-      through None = refl
-      through (Some t) = refl
+  branch_kept d ts = grind (arith, nat_tests, soonest_seen)
 
   -- of the call of that id
   pub ended_found : (id : CallId) (ls : List Life) → ended_branch id (map (seen_call slots) ls) ≡ option_and_then (λ l. kept_before l.deadline (soonest_of l.twigs)) (life_for id ls)
-  ended_found id ls = asked slots (λ c. branch_before c.deadline c.branches) id ls ∙ each (life_for id ls)
-    where
-      each : (o : Option Life) → option_and_then (λ l. branch_before l.deadline (seen_branches slots l.twigs)) o ≡ option_and_then (λ l. kept_before l.deadline (soonest_of l.twigs)) o
-      each None = refl
-      each (Some l) = branch_kept l.deadline l.twigs
+  ended_found id ls = grind (arith, nat_tests, asked, branch_kept)
 
 -- the soonest is one of them
 pub soonest_all : (P : Twig → Type 0) (ts : List Twig) (t : Twig) → All P ts → soonest_of ts ≡ Some t → P t

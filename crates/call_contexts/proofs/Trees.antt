@@ -1,24 +1,12 @@
 -- What the operations on a tree do to its contexts, in the words that the contexts of calls need.
-use Rattle.std.proofs.Common.{◌≡◌, refl, sym, ap, ◌∙◌, arith, rules, ℕ, List, [], ◌∷◌, Option, Some, None, Bool, true, false, inl, inr, ⊎_elim, subst}
-use Rattle.std.specs.Prelude.{◌⊎◌, ◌&&◌, ◌||◌, ◌↔◌, is_some, nat_le, if◌then◌else◌, length, option_map, option_and_then, unwrap_or}
-use Rattle.std.specs.Option.{option_or}
-use Rattle.std.proofs.lemmas.Bool.{cases_Bool}
-use Rattle.std.proofs.Math.Bool.{or-false}
+use Rattle.call_contexts.proofs.Names.{◌≡◌, refl, sym, ap, ◌∙◌, arith, rules, ℕ, List, [], ◌∷◌, Option, Some, None, Bool, true, false, inl, inr, ⊎_elim, subst, is_some, length, ◌⊎◌, ◌&&◌, ◌||◌, ◌↔◌, nat_le, if◌then◌else◌, option_map, option_and_then, unwrap_or, option_or, cases_Bool, or-false, Kind, Background, Cancel, Deadline, Value, Id, Member, own_value, own_due, same, Makes, Advances, Releases, HasChild, Ended, cause_or, expiry, first_due, held, line, chain, deadline, least, nearest, sooner, has_cancel, ending, TreeValue, StandsFor, IsLawful, is_among, node_at, Twig, cause_in, if_due, value_in, request_id_key, Op, TreeLaws, IsFree, IsHolder, Touches, StandsAlike, kind_of, why, nat_tests}
+use Rattle.context_tree.specs.Context.{first_of}
 use Rattle.context_tree.specs.declared.error.Cause.{Cause}
-use Rattle.context_tree.specs.declared.error.Cause.TheVariants.{Given, Plain}
-use Rattle.context_tree.specs.declared.error.CtxErr.TheVariants.{Canceled, DeadlineExceeded}
+use Rattle.context_tree.specs.declared.error.CtxErr.TheVariants.{DeadlineExceeded}
 use Rattle.context_tree.specs.declared.released.Released.{Released}
 use Rattle.context_tree.specs.declared.released.Released.TheVariants.{Gone, HasChildren, Unknown}
-use Rattle.context_tree.specs.declared.node.Kind.{Kind}
-use Rattle.context_tree.specs.declared.node.Kind.TheVariants.{Background, Cancel, Deadline, Value}
-use Rattle.context_tree.specs.Context.{Id, Member, own_value, own_due, same, Makes, Cancels, Advances, Releases, HasChild, Ended, cause_or, expiry, first_due, first_of, held, line, chain, deadline, least, nearest, sooner, has_cancel, ending}
 use Rattle.context_tree.specs.declared.node.Node.{Node}
-use Rattle.context_tree.specs.Frames.{is_due}
 use Rattle.context_tree.specs.Links.{bare}
-use Rattle.context_tree.specs.Tree.{TreeValue, StandsFor, IsLawful, is_among, node_at, told}
-use Rattle.call_contexts.specs.declared.twig.Twig.{Twig}
-use Rattle.call_contexts.specs.Standing.{cause_in, if_cancelled, if_due, value_in, request_id_key}
-use Rattle.call_contexts.specs.Sound.{Op, TreeLaws, IsFree, IsHolder, Touches, StandsAlike, kind_of, why}
 
 pub same_refl : (x : Id) → same x x ≡ true
 same_refl x = grind (arith, rules)
@@ -45,32 +33,16 @@ cannot false b = refl
 pub far_one : (x id : Id) → same id x ≡ false → is_among x (id ∷ []) ≡ false
 far_one x id far = or-false (same x id) ∙ same_turned x id ∙ far
 
-pub one_far : (x id : Id) → is_among x (id ∷ []) ≡ false → same id x ≡ false
-one_far x id far = same_turned id x ∙ sym (or-false (same x id)) ∙ far
-
 -- ---- what the slots show
-
--- a node's ending is no link of it
-ending_bare : {C V : Type 0} (o : Option (Node C V)) → option_and_then (λ n. n.ending) o ≡ option_and_then (λ n. n.ending) (bare o)
-ending_bare None = refl
-ending_bare (Some n) = refl
-
-cause_told : {C : Type 0} (o : Option (Ended C)) → option_map (λ e. e.cause) (option_map told o) ≡ option_map (λ e. e.cause) o
-cause_told None = refl
-cause_told (Some e) = refl
 
 expired_by : {C D : Type 0} (exp : D → Ended C) (before : Option (Ended C)) (d : Option D)
     → option_map (λ e. e.cause) (option_or before (option_map exp d)) ≡ option_or (option_map (λ e. e.cause) before) (option_map (λ x. (exp x).cause) d)
-expired_by exp None None = refl
-expired_by exp None (Some d) = refl
-expired_by exp (Some e) d = refl
+expired_by exp before d = grind (arith, nat_tests)
 
 module _ {C V : Type 0} where
   pub shown : (t : TreeValue C V) (past : List (Op C V)) (x : Id) (kind : Kind C V)
       → StandsFor t past → held x past ≡ Some kind → cause_in t.slots x ≡ why x past
-  shown t past x kind st is =
-      ap (option_map (λ e. e.cause)) (ending_bare (node_at t.slots x) ∙ ap (option_and_then (λ n. n.ending)) (st.contexts.nodes_are x) ∙ rw is refl)
-      ∙ cause_told (ending x past)
+  shown t past x kind st is = grind arith
 
   -- what a moment ends by the deadlines of a chain
   abbrev pub due_on : ℕ → List (Member C V) → Option (Cause C)
@@ -90,17 +62,6 @@ pub shown_request : {C V : Type 0} (t : TreeValue C V) (past : List (Op C V)) (h
     → StandsFor t past → held holder past ≡ Some (Value conn 0 request_id) → value_in t.slots holder ≡ Some request_id
 shown_request t past holder conn request_id st is =
     without_links (node_at t.slots holder) ∙ ap (λ o. option_and_then (λ n. own_value request_id_key n.kind) o) (st.contexts.nodes_are holder) ∙ rw is refl
-
-struck_by : {C : Type 0} (before : Option (Ended C)) (b : Bool) (e : Ended C)
-    → option_map (λ e. e.cause) (option_or before (if b then Some e else None)) ≡ option_or (option_map (λ e. e.cause) before) (if b then Some e.cause else None)
-struck_by None true e = refl
-struck_by None false e = refl
-struck_by (Some d) b e = refl
-
--- a cancel ends what has its context on the chain
-pub struck : {C V : Type 0} (past : List (Op C V)) (x id : Id) (cause : C)
-    → why x (Cancels id (Some cause) ∷ past) ≡ option_or (why x past) (if_cancelled (has_cancel id (chain x past)) cause)
-struck past x id cause = struck_by (ending x past) (has_cancel id (chain x past)) (record { error = Canceled; cause = Given cause; member = id; turn = length past })
 
 map_if : {A B : Type 0} (f : A → B) (b : Bool) (a : A) → option_map f (if b then Some a else None) ≡ (if b then Some (f a) else None)
 map_if f true a = refl
@@ -178,14 +139,7 @@ module _ {C D : Type 0} (f : Option D → Option D → Option D) (c : D → Caus
     (left : (b : Option D) → f None b ≡ b) (right : (x : D) → f (Some x) None ≡ Some x) (one : (x y : D) → (f (Some x) (Some y) ≡ Some x) ⊎ (f (Some x) (Some y) ≡ Some y)) where
   first_plain : (a b : Option D) (m n : Bool) → option_map c a ≡ (if m then Some k else None) → option_map c b ≡ (if n then Some k else None)
       → option_map c (f a b) ≡ option_or (if n then Some k else None) (if m then Some k else None)
-  first_plain None b true n am bn = cc
-  first_plain None b false true am bn = ap (option_map c) (left b) ∙ bn
-  first_plain None b false false am bn = ap (option_map c) (left b) ∙ bn
-  first_plain (Some x) None m true am bn = cc
-  first_plain (Some x) None m false am bn = ap (option_map c) (right x) ∙ am
-  first_plain (Some x) (Some y) true true am bn = ⊎_elim (λ e. ap (option_map c) e ∙ am) (λ e. ap (option_map c) e ∙ bn) (one x y)
-  first_plain (Some x) (Some y) false n am bn = cc
-  first_plain (Some x) (Some y) true false am bn = cc
+  first_plain a b m n h4 h5 = grind (arith, nat_tests)
 
 module _ {C V : Type 0} (laws : TreeLaws C V) (past : List (Op C V)) (lawful : IsLawful past) (call : Id) (t : Twig) (is : held t.ctx past ≡ Some (Deadline call t.at None)) where
   twig_chain : chain t.ctx past ≡ (t.ctx, Deadline call t.at None) ∷ chain call past
@@ -196,9 +150,7 @@ module _ {C V : Type 0} (laws : TreeLaws C V) (past : List (Op C V)) (lawful : I
 
   -- a moment ends it where it has reached its own deadline or its call's
   pub twig_due : (now : ℕ) (d : Option ℕ) → due_on now (chain call past) ≡ if_due now d → due_on now (chain t.ctx past) ≡ option_or (if_due now d) (if_due now (Some t.at))
-  twig_due now d call_is = ap (due_on now) twig_chain
-      ∙ first_plain first_of (λ d. cause_or DeadlineExceeded d.cause) (Plain DeadlineExceeded) (λ b. refl) (λ x. refl) picks (own_due {C = C} {V = V} now (t.ctx, Deadline call t.at None)) (first_due now (chain call past))
-      (nat_le t.at now) (is_due now d) (map_if _ (nat_le t.at now) _) call_is
+  twig_due now d call_is = grind (arith, nat_tests, twig_chain, first_plain, picks, map_if)
 
   pub twig_deadline : deadline t.ctx past ≡ sooner (Some t.at) (deadline call past)
   twig_deadline = ap least twig_chain
@@ -207,50 +159,26 @@ module _ {C V : Type 0} (laws : TreeLaws C V) (past : List (Op C V)) (lawful : I
 
 module _ {C V : Type 0} where
   pub touch_made : (id : Id) (kind : Kind C V) (now : ℕ) (past : List (Op C V)) → Touches (id ∷ []) past (Makes id kind now ∷ past)
-  touch_made id kind now past = record {
-    held_is = λ x far. rw (one_far x id far) refl;
-    ending_is = λ x k far is. rw (one_far x id far) refl;
-  }
+  touch_made id kind now past = grind arith
 
   pub touch_released : (id : Id) (past : List (Op C V)) → Touches (id ∷ []) past (Releases id ∷ past)
-  touch_released id past = record {
-    held_is = λ x far. rw (one_far x id far) refl;
-    ending_is = λ x k far is. refl;
-  }
+  touch_released id past = grind arith
 
   pub touch_nothing : (past : List (Op C V)) → Touches [] past past
   touch_nothing past = record { held_is = λ x far. refl; ending_is = λ x k far is. refl }
 
   pub touch_next : (ids : List Id) (past mid later : List (Op C V)) → Touches ids past mid → Touches ids mid later → Touches ids past later
-  touch_next ids past mid later one two = record {
-    held_is = λ x far. two.held_is x far ∙ one.held_is x far;
-    ending_is = λ x k far is. two.ending_is x k far (one.held_is x far ∙ is) ∙ one.ending_is x k far is;
-  }
+  touch_next ids past mid later one two = grind arith
 
   pub touch_more : (few ids : List Id) (past later : List (Op C V)) → ((x : Id) → is_among x ids ≡ false → is_among x few ≡ false) → Touches few past later → Touches ids past later
-  touch_more few ids past later more t = record {
-    held_is = λ x far. t.held_is x (more x far);
-    ending_is = λ x k far is. t.ending_is x k (more x far) is;
-  }
+  touch_more few ids past later more t = grind arith
 
   -- what is held neither before nor after is not touched
   pub touch_none : (id : Id) (past later : List (Op C V)) → Touches (id ∷ []) past later → held id past ≡ None → held id later ≡ None → Touches [] past later
-  touch_none id past later t before after = record {
-    held_is = λ x far. ⊎_elim
-        (λ (y : same id x ≡ true). let e : id ≡ x = same_true id x y in rw (← e) (after ∙ sym before))
-        (λ (n : same id x ≡ false). t.held_is x (far_one x id n))
-        (cases_Bool (same id x));
-    ending_is = λ x k far is. ⊎_elim
-        (λ (y : same id x ≡ true). let e : id ≡ x = same_true id x y in let bad : None ≡ Some k = sym before ∙ subst (λ z. held z past ≡ Some k) (sym e) is in cc)
-        (λ (n : same id x ≡ false). t.ending_is x k (far_one x id n) is)
-        (cases_Bool (same id x));
-  }
+  touch_none id past later t before after = search arith
 
   pub free_alike : (id : Id) (past later : List (Op C V)) → Touches [] past later → IsFree id past → IsFree id later
-  free_alike id past later t free = record {
-    is_held = ap is_some (t.held_is id refl) ∙ free.is_held;
-    childless = λ c. free.childless (record { child = c.child; kind = c.kind; is_held = sym (t.held_is c.child refl) ∙ c.is_held; derives = c.derives });
-  }
+  free_alike id past later t free = grind arith
 
   -- what is held is none of those that are not
   pub far_new : (id x : Id) (kind : Kind C V) (past : List (Op C V)) → held id past ≡ None → held x past ≡ Some kind → same id x ≡ false

@@ -1,22 +1,5 @@
 -- The calls of a connection that this ends, of which the first so many have ended.
-use Rattle.std.proofs.Common.{◌≡◌, ℕ, ◌+◌, ◌≤◌, ◌<◌, refl, sym, ap, ◌∙◌, [], ◌∷◌, ◌++◌, Bool, true, false, map, length, append-nil, subst, arith}
-use Rattle.std.specs.Prelude.{◌||◌, All, if◌then◌else◌, is_some, slice_set}
-use Rattle.gateway_replies.specs.Contexts.{ContextsValue, LivesApart, contexts_value, ending_life, ends_of, is_life, peer, without}
-use Rattle.gateway_replies.specs.Hooks.{stock_in}
-use Rattle.gateway_theory.specs.declared.trigger.Trigger.{Trigger}
-use Rattle.gateway_theory.specs.Ends.{ended_kept}
-use Rattle.gateway_theory.specs.Values.{KeptValue, HeldConnection}
-use Rattle.gateway_theory.specs.Replies.{ReplyValue}
-use Rattle.gateway_theory.specs.Results.{stepped_kept}
-use Rattle.gateway_theory.specs.Step.{Step}
-use Rattle.gateway_theory.specs.Store.{kept_at, no_call, waiting}
-use Rattle.gateway_theory.specs.Held.{Holds, broken_held, next_held}
-use Rattle.gateway_connection.specs.Ends.{EndsBy, EndsOne, FailsOne, ending_of, filled_by, replies_by}
-use Rattle.gateway_connection.specs.Jobs.{JobsValue}
-use Rattle.gateway_connection.specs.Lent.{LeavesRest, MayStep}
-use Rattle.gateway_connection.specs.Linked.{IsNow, event_for, linked_calls, none_over, over_by}
-use Rattle.gateway_connection.specs.OwnContexts.{IsTied, LeavesOthers, own_contexts}
-use Rattle.gateway_connection.specs.declared.shared.Shared.{Shared}
+use Rattle.gateway_connection.specs.lemmas.Names.{◌≡◌, ℕ, ◌+◌, ◌≤◌, ◌<◌, sym, ap, ◌∙◌, [], ◌∷◌, ◌++◌, Bool, true, false, map, length, append-nil, subst, arith, ◌||◌, All, if◌then◌else◌, is_some, slice_set, ContextsValue, LivesApart, contexts_value, ending_life, ends_of, is_life, peer, without, Trigger, ended_kept, KeptValue, HeldConnection, ReplyValue, stepped_kept, Step, kept_at, no_call, waiting, Holds, broken_held, next_held, EndsBy, EndsOne, FailsOne, ending_of, filled_by, replies_by, LeavesRest, MayStep, IsNow, event_for, linked_calls, none_over, over_by, IsTied, own_contexts, Shared, nat_tests}
 use Rattle.gateway_connection.specs.lemmas.OwnContexts.{apart_own, ending_own, is_life_own, others_none, without_own}
 use Rattle.gateway_connection.proofs.DoneLemmas.{done_all, done_at, done_next, done_size, done_to}
 use Rattle.gateway_connection.proofs.EndLemmas.{all_ended, done_given, ended_own, ends_in, made_next, made_own, made_to, step_of}
@@ -51,11 +34,7 @@ module _ {H : Type 0} where
 
     -- it has its context while it can be decided
     pub some_known : n < length k.calls → is_some (kept_at n l.calls).call.live ≡ true → is_life (kept_at n l.calls).id b.contexts.standing.calls ≡ true
-    some_known lt live =
-        sym (is_life_own (kept_at n l.calls).id b.contexts.standing)
-        ∙ ap (λ c. is_life (kept_at n l.calls).id (own_contexts c b.contexts.standing).calls) (some_conn lt)
-        ∙ ap (λ (x : ContextsValue). is_life (kept_at n l.calls).id x.calls) s.tied.are
-        ∙ live_has_life (over_by trigger) l.calls n (kept_at n l.calls) refl live
+    some_known lt live = grind (arith, nat_tests, is_life_own, some_conn, live_has_life)
 
     -- no more of its branches wait than are counted
     pub some_waits : waiting k.calls ≤ a.jobs.waiting → waiting l.calls ≤ b.jobs.waiting
@@ -90,26 +69,13 @@ module _ {H : Type 0} where
         goes = is_some (ending_of n l b).reply
 
         drained_is : c.contexts.standing.drained ≡ b.contexts.standing.drained
-        drained_is = ap (λ (x : ContextsValue). x.drained) one.standing_is ∙ by goes
-          where
-            by : (t : Bool) → (if t then without (kept_at n l.calls).id b.contexts.standing else b.contexts.standing).drained ≡ b.contexts.standing.drained
-            by true = refl
-            by false = refl
+        drained_is = cc
 
         conns_are : c.contexts.standing.conns ≡ b.contexts.standing.conns
-        conns_are = ap (λ (x : ContextsValue). x.conns) one.standing_is ∙ by goes
-          where
-            by : (t : Bool) → (if t then without (kept_at n l.calls).id b.contexts.standing else b.contexts.standing).conns ≡ b.contexts.standing.conns
-            by true = refl
-            by false = refl
+        conns_are = grind arith
 
         own_is : own_contexts l.number c.contexts.standing ≡ (if goes then without (kept_at n l.calls).id (own_contexts l.number b.contexts.standing) else own_contexts l.number b.contexts.standing)
-        own_is = ap (own_contexts l.number) one.standing_is ∙ by goes
-          where
-            by : (t : Bool) → own_contexts l.number (if t then without (kept_at n l.calls).id b.contexts.standing else b.contexts.standing)
-                ≡ (if t then without (kept_at n l.calls).id (own_contexts l.number b.contexts.standing) else own_contexts l.number b.contexts.standing)
-            by true = without_own l.number (kept_at n l.calls).id b.contexts.standing
-            by false = refl
+        own_is = grind (arith, nat_tests, without_own)
 
         own_now : own_contexts l.number c.contexts.standing ≡ contexts_value b.contexts.standing.drained (if l.closed || l.broken then [] else peer l.number (ends_of b.contexts.standing l.number) ∷ []) (linked_calls (over_by trigger) m.calls)
         own_now =
@@ -136,13 +102,7 @@ module _ {H : Type 0} where
       -- memory is refused to its reply, and the connection breaks
       module _ (fails : FailsOne (ending_of n l b) l m b c) (z : HeldConnection) (d : Shared H) (z_is : z ≡ broken_held m) (rest : LeavesRest [] m z c d) where
         pub some_broke : EndsBy trigger true k z
-        some_broke =
-            let ends = ends_in trigger k n h lt (ap (λ (st : Step). is_some st.reply) (sym (some_step lt now apart)) ∙ fails.ends) in (
-              ends.0,
-              ends.1.0,
-              ends.1.1,
-              z_is ∙ fails.broken ∙ ap broken_held s.conn_is ∙ ap (λ ks. record k { calls = ks; broken = true }) (done_given trigger n k.calls),
-            )
+        some_broke = grind (arith, nat_tests, ends_in, some_step, done_given)
 
         pub some_broke_rest : LeavesRest [] k z a d
         some_broke_rest = rest_then [] [] k m z a c d (fails.number_is ∙ some_number) (rest_then [] [] k l m a b c some_number s.rest fails.rest) rest
@@ -169,22 +129,7 @@ module _ {H : Type 0} where
           ap (linked_calls (over_by trigger)) now_are ∙ not_over trigger (λ id. false) k.calls ∙ ap (linked_calls none_over) (sym now_are ∙ sym calls_same)
 
       pub some_tied : IsTied none_over z b.contexts
-      some_tied = retied
-          (ap (λ (x : HeldConnection). x.number) z_is) (ap (λ (x : HeldConnection). x.closed) z_is) (ap (λ (x : HeldConnection). x.broken) z_is) (ap (λ (x : HeldConnection). x.hung_up) z_is)
-          (ap (λ (x : HeldConnection). (next_held x).request) z_is ∙ ap (λ m. l.taken + m) (filled_size b.made.items l))
-        where
-          retied : z.number ≡ l.number → z.closed ≡ l.closed → z.broken ≡ l.broken → z.hung_up ≡ l.hung_up → (next_held z).request ≡ (next_held l).request → IsTied none_over z b.contexts
-          retied number closed broken hung next = record {
-            are = ap (λ c. own_contexts c b.contexts.standing) number ∙ s.tied.are
-                ∙ ap (contexts_value b.contexts.standing.drained (if l.closed || l.broken then [] else peer l.number (ends_of b.contexts.standing l.number) ∷ [])) ended_calls
-                ∙ ap (λ c. contexts_value b.contexts.standing.drained (if l.closed || l.broken then [] else peer c (ends_of b.contexts.standing c) ∷ []) (linked_calls none_over z.calls)) (sym number)
-                ∙ ap (λ t. contexts_value b.contexts.standing.drained (if t || l.broken then [] else peer z.number (ends_of b.contexts.standing z.number) ∷ []) (linked_calls none_over z.calls)) (sym closed)
-                ∙ ap (λ t. contexts_value b.contexts.standing.drained (if z.closed || t then [] else peer z.number (ends_of b.contexts.standing z.number) ∷ []) (linked_calls none_over z.calls)) (sym broken);
-            only_by_drain = λ opened whole on. ap (ends_of b.contexts.standing) number ∙ s.tied.only_by_drain (sym closed ∙ opened) (sym broken ∙ whole) (sym hung ∙ on);
-            stocked = λ opened whole stock is.
-                let enough = s.tied.stocked (sym closed ∙ opened) (sym broken ∙ whole) stock (ap (λ c. stock_in c b.contexts.stocks) (sym number) ∙ is) in
-                omega (arith, enough, next);
-          }
+      some_tied = grind (arith, nat_tests, filled_size, ended_calls)
 
       pub some_rest : LeavesRest [] k z a b
       some_rest = rest_conn [] k l z a b (ap waiting calls_same) s.rest
@@ -192,16 +137,4 @@ module _ {H : Type 0} where
   -- none has ended yet
   pub some_first : (trigger : Trigger) (k : HeldConnection) (a b : Shared H) → MayStep (over_by trigger) k a → b.plans ≡ a.plans → b.moment ≡ a.moment → b.contexts ≡ a.contexts → b.jobs ≡ a.jobs → b.begun ≡ a.begun
       → b.made.items ≡ [] → EndsSome trigger 0 k k a b
-  some_first trigger k a b may plans moment contexts jobs begun made = record {
-    conn_is = refl;
-    made_are = made;
-    tied = subst (IsTied (over_by trigger) k) (sym contexts) may.tied;
-    begun_is = begun;
-    rest = record {
-      plans_are = plans;
-      moment_is = moment;
-      jobs_are = ap (λ (q : JobsValue). q.jobs) jobs ∙ sym (append-nil a.jobs.jobs);
-      waits = ap (λ (q : JobsValue). q.waiting + waiting k.calls) jobs;
-      others = subst (LeavesOthers k.number a.contexts) (sym contexts) (others_none k.number a.contexts);
-    };
-  }
+  some_first trigger k a b may plans moment contexts jobs begun made = grind (arith, nat_tests, append-nil, others_none)

@@ -1,13 +1,5 @@
 -- A list of calls, of which the first so many were changed.
-use Rattle.std.proofs.Common.{◌≡◌, ℕ, zero, suc, ◌+◌, ◌≤◌, ◌<◌, List, [], ◌∷◌, length, map, refl, ap, ◌∙◌, arith, sym, Option, Some, None, true, false}
-use Rattle.std.specs.Prelude.{slice_set, is_some}
-use Rattle.std.proofs.lemmas.List.Sums.{get_or-le-sum_by, sum_by-set}
-use Rattle.std.proofs.lemmas.List.{set-get_or}
-use Rattle.gateway_model.specs.declared.call_event.CallEvent.{CallEvent}
-use Rattle.gateway_theory.specs.Values.{KeptValue, Live, HeldConnection}
-use Rattle.gateway_theory.specs.Store.{kept_at, no_call, waiting, waiting_in, given_up}
-use Rattle.gateway_theory.specs.Results.{stepped_kept}
-use Rattle.gateway_connection.specs.Linked.{ends_with}
+use Rattle.gateway_connection.specs.lemmas.Names.{◌≡◌, ℕ, zero, suc, ◌+◌, ◌≤◌, ◌<◌, List, [], ◌∷◌, length, map, refl, ap, ◌∙◌, arith, Option, Some, true, slice_set, is_some, get_or-le-sum_by, sum_by-set, set-get_or, CallEvent, KeptValue, HeldConnection, kept_at, no_call, waiting, waiting_in, given_up, stepped_kept, ends_with, nat_tests}
 
 abbrev pub done_to : (KeptValue → KeptValue) → ℕ → List KeptValue → List KeptValue
 done_to f zero ks = ks
@@ -50,11 +42,7 @@ part_waits ks i lt = get_or-le-sum_by waiting_in ks i no_call lt
 
 -- the event ends it
 pub some_ends : (e : CallEvent) (o : Option CallEvent) (x : KeptValue) → o ≡ Some e → is_some x.call.live ≡ true → (stepped_kept (ends_with o x.call.out x.call.live) x ≡ given_up x) × (is_some (ends_with o x.call.out x.call.live).reply ≡ true)
-some_ends e o x some live = by x.call.live refl
-  where
-    by : (q : Option Live) → x.call.live ≡ q → (stepped_kept (ends_with o x.call.out x.call.live) x ≡ given_up x) × (is_some (ends_with o x.call.out x.call.live).reply ≡ true)
-    by None q_is = absurd (let clash : false ≡ true = sym (ap (λ q. is_some q) q_is) ∙ live in cc)
-    by (Some l) q_is = (rw (some, q_is) refl, rw (some, q_is) refl)
+some_ends e o x some live = grind arith
 
 -- a call in its own place
 pub set_same : (k : HeldConnection) (i : ℕ) (y : KeptValue) → y ≡ kept_at i k.calls → record k { calls = slice_set k.calls i y } ≡ k
@@ -68,6 +56,4 @@ given_first (k ∷ ks) (suc i) y is = ap (λ xs. given_up k ∷ xs) (given_first
 
 -- none of its branches waits any more
 pub given_waits : (ks : List KeptValue) (i : ℕ) (y : KeptValue) → i < length ks → y ≡ given_up (kept_at i ks) → waiting (slice_set ks i y) + waiting_in (kept_at i ks) ≡ waiting ks
-given_waits ks i y lt is =
-    let none : waiting_in y ≡ 0 = ap waiting_in is in
-    omega (arith, none, set_waits ks i y lt)
+given_waits ks i y lt is = grind (arith, nat_tests, set_waits)

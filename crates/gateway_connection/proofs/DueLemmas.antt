@@ -1,16 +1,5 @@
 -- What the contexts of a call and of its branches tell is what a moment brings.
-use Rattle.std.proofs.Common.{◌≡◌, ℕ, suc, min, true, false, List, [], ◌∷◌, Option, None, Some, refl, sym, ap, ◌∙◌, arith, ⊎_elim}
-use Rattle.std.specs.Prelude.{◌==◌, is_some, nat_le, if◌then◌else◌, option_map}
-use Rattle.std.specs.Option.{option_or, option_map_or}
-use Rattle.std.proofs.lemmas.Bool.{cases_Bool, eq-eqb}
-use Rattle.call_contexts.specs.Standing.{branch_before, first_branch, if_before, sooner_branch}
-use Rattle.gateway_model.specs.declared.call_event.CallEvent.{CallEvent}
-use Rattle.gateway_model.specs.declared.call_event.CallEvent.TheVariants.{BranchExpired, Expired}
-use Rattle.gateway_model.specs.declared.id.CallId.{CallId}
-use Rattle.gateway_model.specs.Past.{due_by, first_at, is_at, is_due, least_of, smaller}
-use Rattle.gateway_replies.specs.Contexts.{TimedBranch, by_deadline, event_of}
-use Rattle.gateway_theory.specs.declared.trigger.Trigger.TheVariants.{Reached}
-use Rattle.gateway_connection.specs.Linked.{Over, over_by, timed}
+use Rattle.gateway_connection.specs.lemmas.Names.{◌==◌, min, true, false, sym, ap, ◌∙◌, ⊎_elim, ◌≡◌, ℕ, suc, List, [], ◌∷◌, Option, None, Some, refl, arith, nat_le, is_some, if◌then◌else◌, option_map, cases_Bool, eq-eqb, sooner_branch, branch_before, first_branch, if_before, option_or, option_map_or, CallEvent, BranchExpired, Expired, CallId, due_by, first_at, is_at, is_due, least_of, smaller, TimedBranch, by_deadline, event_of, Reached, Over, over_by, timed, nat_tests}
 
 -- the branch that stands first, of these deadlines
 abbrev pub first_of_least : Over → CallId → Option ℕ → ℕ → List (Option ℕ) → ℕ → TimedBranch
@@ -55,47 +44,12 @@ pub brought : ℕ → Option ℕ → Option ℕ → (ℕ → ℕ) → Option Cal
 brought now call least place =
     if is_due now (smaller call least) then Some (option_map_or (λ at. if is_at at call then Expired now else BranchExpired (place at) now) (smaller call least) (Expired now)) else None
 
-sooner_due : (a y now : ℕ) → nat_le a y ≡ false → nat_le a now ≡ true → nat_le y now ≡ true
-sooner_due a y now gt due = grind (arith, gt, due)
-
 pub same_event : (now : ℕ) (call least : Option ℕ) (place : ℕ → ℕ) → told_by now call least place ≡ brought now call least place
 unfolding told_by brought
-same_event now None None place = refl
-same_event now (Some a) None place = ⊎_elim
-    (λ (due : nat_le a now ≡ true). rw (due, eq-eqb a a refl) refl)
-    (λ (not_yet : nat_le a now ≡ false). rw not_yet refl)
-    (cases_Bool (nat_le a now))
-same_event now None (Some y) place = ⊎_elim
-    (λ (due : nat_le y now ≡ true). rw due refl)
-    (λ (not_yet : nat_le y now ≡ false). rw not_yet refl)
-    (cases_Bool (nat_le y now))
-same_event now (Some a) (Some y) place = ⊎_elim
-    (λ (le : nat_le a y ≡ true). ⊎_elim
-    (λ (due : nat_le a now ≡ true). rw (due, le, le_min a y le, eq-eqb a a refl, due) refl)
-    (λ (not_yet : nat_le a now ≡ false). ⊎_elim
-    (λ (branch : nat_le y now ≡ true). rw (not_yet, branch, le, le_min a y le, not_yet) refl)
-    (λ (neither : nat_le y now ≡ false). rw (not_yet, neither, le_min a y le, not_yet) refl)
-    (cases_Bool (nat_le y now)))
-    (cases_Bool (nat_le a now)))
-    (λ (gt : nat_le a y ≡ false). ⊎_elim
-    (λ (due : nat_le a now ≡ true). rw (due, gt, gt_min a y gt, sooner_due a y now gt due, gt_not a y gt) refl)
-    (λ (not_yet : nat_le a now ≡ false). ⊎_elim
-    (λ (branch : nat_le y now ≡ true). rw (not_yet, branch, gt, gt_min a y gt, branch, gt_not a y gt) refl)
-    (λ (neither : nat_le y now ≡ false). rw (not_yet, neither, gt_min a y gt, neither) refl)
-    (cases_Bool (nat_le y now)))
-    (cases_Bool (nat_le a now)))
-    (cases_Bool (nat_le a y))
+same_event now call least place = grind (arith, nat_tests)
 
 -- a moment ends the call by what its contexts tell
 pub moment_event : (now : ℕ) (id : CallId) (call : Option ℕ) (ds : List (Option ℕ))
     → event_of now (by_deadline now call) (branch_before call (timed (over_by (Reached now)) id call 0 ds)) ≡ due_by now call ds
 unfolding told_by brought
-moment_event now id call ds = by (least_of ds) refl
-  where
-    seen : (o : Option ℕ) → least_of ds ≡ o
-        → first_branch (timed (over_by (Reached now)) id call 0 ds) ≡ option_map (first_of_least (over_by (Reached now)) id call 0 ds) o
-    seen o o_is = least_first (over_by (Reached now)) id call 0 ds ∙ ap (option_map (first_of_least (over_by (Reached now)) id call 0 ds)) o_is
-
-    by : (o : Option ℕ) → least_of ds ≡ o → event_of now (by_deadline now call) (branch_before call (timed (over_by (Reached now)) id call 0 ds)) ≡ due_by now call ds
-    by None o_is = rw (seen None o_is, o_is) (same_event now call None (λ at. first_at at 0 ds))
-    by (Some y) o_is = rw (seen (Some y) o_is, o_is) (same_event now call (Some y) (λ at. first_at at 0 ds))
+moment_event now id call ds = grind (arith, nat_tests, least_first, same_event)

@@ -1,38 +1,7 @@
 -- What comes on a connection's stream: its contexts, and what it makes of the connection.
-use Rattle.std.proofs.Common.{◌≡◌, ℕ, ◌+◌, ◌≤◌, refl, sym, ap, ◌∙◌, List, [], ◌∷◌, ◌++◌, Option, Some, None, Bool, true, false, ⊎_elim, map, length, append-nil, subst, arith}
-use Rattle.std.specs.Prelude.{◌&&◌, ◌||◌, ◌==◌, filter, if◌then◌else◌, not}
-use Rattle.std.specs.List.{range_with_len}
-use Rattle.std.specs.Option.{option_or}
-use Rattle.std.proofs.lemmas.Bool.{cases_Bool, eq-eqb, or_parts}
-use Rattle.std.proofs.lemmas.List.{length-append}
-use Rattle.std.proofs.lemmas.List.Elements.{filter-append}
-use Rattle.std.proofs.lemmas.List.Folds.{list_any-append}
+use Rattle.gateway_connection.specs.lemmas.Names.{◌≡◌, ℕ, ◌+◌, ◌≤◌, refl, sym, ap, ◌∙◌, List, [], ◌∷◌, ◌++◌, Option, Some, None, Bool, true, false, ⊎_elim, map, length, append-nil, subst, arith, filter, not, range_with_len, option_or, eq-eqb, or_parts, length-append, filter-append, list_any-append, most_requests, CallEvent, ReplyEntry, CallId, ArrivedCall, is_call, ContextsValue, KeepsOthers, LifeValue, begun, by_deadline, by_drain, contexts_value, ending_at, ending_life, ends_of, is_life, is_peer, life_by, others, without, HookedContexts, StocksStay, TakesAtMostOne, stock_in, begins, begun_live, ends_first, first_jobs, first_ones, first_out, KeptValue, gone, TaskValue, HeldConnection, step_to, Step, job_at, task_of, all_stay, or_true, ReplyValue, waiting, call_itself, Holds, entered_held, hears, next_held, asking, Arrives, Begins, Enters, MayFail, IsBegun, MayCome, event_for, first_started, life_in, linked_calls, none_over, IsTied, LeavesOthers, own_calls, Shared, JobsValue, nat_tests}
 use Rattle.std.proofs.lemmas.Simd.{map-map}
-use Rattle.http_pieces.specs.Request.{most_requests}
-use Rattle.gateway_model.specs.declared.call_event.CallEvent.{CallEvent}
-use Rattle.gateway_model.specs.declared.call_event.CallEvent.TheVariants.{Expired}
-use Rattle.gateway_model.specs.declared.entry.ReplyEntry.{ReplyEntry}
-use Rattle.gateway_model.specs.declared.id.CallId.{CallId}
-use Rattle.gateway_model.specs.Past.{ArrivedCall, is_call, is_due}
-use Rattle.gateway_replies.specs.Contexts.{ContextsValue, KeepsOthers, LifeValue, begun, by_deadline, by_drain, contexts_value, ending_at, ending_life, ends_of, event_of, is_life, is_peer, life_by, others, peer, without}
-use Rattle.gateway_replies.specs.Hooks.{HookedContexts, StocksStay, TakesAtMostOne, stock_in}
-use Rattle.gateway_theory.specs.Begins.{begins, begun_live, ends_first, first_jobs, first_ones, first_out}
-use Rattle.gateway_theory.specs.Values.{KeptValue, gone, TaskValue, HeldConnection}
-use Rattle.gateway_theory.specs.Step.{step_to, Step}
-use Rattle.gateway_theory.specs.Task.{job_at, task_of}
-use Rattle.gateway_theory.specs.lemmas.Cases.{all_stay, or_true}
-use Rattle.gateway_theory.specs.Replies.{ReplyValue}
-use Rattle.gateway_theory.specs.Store.{waiting}
-use Rattle.gateway_theory.specs.lemmas.StoreLemmas.{call_itself}
-use Rattle.gateway_theory.specs.Held.{Holds, entered_held, hears, next_held}
-use Rattle.gateway_connection.specs.Comes.{asking, Arrives, Begins, Enters, MayFail}
-use Rattle.gateway_connection.specs.KeptCall.{IsBegun}
-use Rattle.gateway_connection.specs.Lent.{MayCome}
-use Rattle.gateway_connection.specs.Linked.{event_for, first_started, life_in, linked_calls, none_over}
-use Rattle.gateway_connection.specs.OwnContexts.{IsTied, LeavesOthers, own_calls, own_contexts, own_peers}
-use Rattle.gateway_connection.specs.declared.shared.Shared.{Shared}
 use Rattle.gateway_connection.specs.lemmas.OwnContexts.{is_life_own, is_peer_own, keeps_leaves, others_taken}
-use Rattle.gateway_connection.specs.Jobs.{JobsValue}
 use Rattle.gateway_connection.specs.declared.arriving.Arriving.TheVariants.{Answered, Begins as BeginsCall}
 use Rattle.gateway_connection.proofs.HoldsLemmas.{next_new}
 use Rattle.gateway_connection.proofs.LinkedLemmas.{calls_append, none_life}
@@ -41,37 +10,18 @@ use Rattle.gateway_connection.proofs.TimedLemmas.{first_is, first_timed, life_on
 -- ---- one on which something may come
 
 pub opened_by : (k : HeldConnection) → hears k ≡ true → k.closed ≡ false
-opened_by k on = by k.closed on
-  where
-    by : (b : Bool) → (not b && (not k.broken && not k.hung_up)) ≡ true → b ≡ false
-    by true e = absurd (cc)
-    by false e = refl
+opened_by k on = grind arith
 
 pub whole_by : (k : HeldConnection) → hears k ≡ true → k.broken ≡ false
-whole_by k on = by k.closed k.broken on
-  where
-    by : (a b : Bool) → (not a && (not b && not k.hung_up)) ≡ true → b ≡ false
-    by true b e = absurd (cc)
-    by false true e = absurd (cc)
-    by false false e = refl
+whole_by k on = grind arith
 
 pub on_by : (k : HeldConnection) → hears k ≡ true → k.hung_up ≡ false
-on_by k on = by k.closed k.broken k.hung_up on
-  where
-    by : (a b c : Bool) → (not a && (not b && not c)) ≡ true → c ≡ false
-    by true b c e = absurd (cc)
-    by false true c e = absurd (cc)
-    by false false true e = absurd (cc)
-    by false false false e = refl
+on_by k on = grind arith
 
 module _ {H : Type 0} (k : HeldConnection) (s : Shared H) (m : MayCome k s) where
   -- it has a context
   pub may_known : is_peer k.number s.contexts.standing.conns ≡ true
-  may_known =
-      sym (is_peer_own k.number s.contexts.standing) ∙ ap (λ (x : ContextsValue). is_peer k.number x.conns) m.may.tied.are
-      ∙ ap (λ b. is_peer k.number (if b || k.broken then [] else peer k.number (ends_of s.contexts.standing k.number) ∷ [])) (opened_by k m.on)
-      ∙ ap (λ b. is_peer k.number (if b then [] else peer k.number (ends_of s.contexts.standing k.number) ∷ [])) (whole_by k m.on)
-      ∙ rw (eq-eqb k.number k.number refl) refl
+  may_known = grind (arith, nat_tests, is_peer_own, opened_by, whole_by, eq-eqb)
 
   -- its next request has none yet
   pub may_fresh : Holds k → is_life (next_held k) s.contexts.standing.calls ≡ false
@@ -92,12 +42,7 @@ module _ {H : Type 0} (k : HeldConnection) (s : Shared H) (m : MayCome k s) wher
 -- ---- its context, as it is made
 
 pub begun_others : (now : ℕ) (id : CallId) (a : ArrivedCall) (x : ContextsValue) → KeepsOthers id.conn x (begun now id a x)
-begun_others now id a x = record {
-  drained_is = refl;
-  conns_are = refl;
-  others_are = filter-append (λ (l : LifeValue). not (l.id.conn == id.conn)) x.calls (life_by (option_or (ends_of x id.conn) (by_deadline now a.deadline)) id a ∷ [])
-      ∙ rw (eq-eqb id.conn id.conn refl) (append-nil (others id.conn x.calls));
-}
+begun_others now id a x = grind (arith, nat_tests, filter-append, eq-eqb, append-nil)
 
 pub keeps_then : (c : ℕ) (x y z : ContextsValue) → KeepsOthers c x y → KeepsOthers c y z → KeepsOthers c x z
 keeps_then c x y z a b = record { drained_is = b.drained_is ∙ a.drained_is; conns_are = b.conns_are ∙ a.conns_are; others_are = b.others_are ∙ a.others_are }
@@ -120,16 +65,7 @@ life_pushed moment id (m ∷ ms) l none its =
 -- a call that arrives ends by what its context tells
 pub first_event : (moment : ℕ) (id : CallId) (a : ArrivedCall) (x : ContextsValue) (d : Bool) → is_life id x.calls ≡ false → ends_of x id.conn ≡ by_drain d
     → event_for moment id (begun moment id a x) ≡ ends_first moment d a
-first_event moment id a x d fresh not_hung =
-    life_pushed moment id x.calls (life_by (option_or (ends_of x id.conn) (by_deadline moment a.deadline)) id a) fresh (call_itself id)
-    ∙ ap (λ e. event_of moment (option_or e (by_deadline moment a.deadline)) None) not_hung ∙ by d
-  where
-    by : (d : Bool) → event_of moment (option_or (by_drain d) (by_deadline moment a.deadline)) None ≡ ends_first moment d a
-    by true = refl
-    by false = ⊎_elim
-        (λ (y : is_due moment a.deadline ≡ true). rw y refl)
-        (λ (n : is_due moment a.deadline ≡ false). rw n refl)
-        (cases_Bool (is_due moment a.deadline))
+first_event moment id a x d fresh not_hung = grind (arith, nat_tests, life_pushed, call_itself)
 
 -- a call that is not crowded out begins as this event says
 pub asking_first : (crowded : Bool) (moment : ℕ) (drained : Bool) (id : CallId) (a : ArrivedCall) (q : Option CallEvent) → crowded ≡ false → q ≡ ends_first moment drained a → asking crowded moment drained id a ≡ begins moment q id a
@@ -138,32 +74,16 @@ asking_first crowded moment drained id a q full q_is = rw full (ap (λ e. begins
 -- a context that begins, and has not ended
 pub begun_on : (moment : ℕ) (id : CallId) (a : ArrivedCall) (x : ContextsValue) (d : Bool) → ends_of x id.conn ≡ by_drain d → ends_first moment d a ≡ None
     → begun moment id a x ≡ contexts_value x.drained x.conns (x.calls ++ life_by None id a ∷ [])
-begun_on moment id a x d not_hung none =
-    ap (λ e. contexts_value x.drained x.conns (x.calls ++ life_by (option_or e (by_deadline moment a.deadline)) id a ∷ [])) not_hung
-    ∙ ap (λ e. contexts_value x.drained x.conns (x.calls ++ life_by e id a ∷ [])) (by d none)
-  where
-    by : (d : Bool) → ends_first moment d a ≡ None → option_or (by_drain d) (by_deadline moment a.deadline) ≡ None
-    by true bad = cc
-    by false at = ⊎_elim
-        (λ (y : is_due moment a.deadline ≡ true). let bad : Some (Expired moment) ≡ None = rw y at at in cc)
-        (λ (n : is_due moment a.deadline ≡ false). rw n refl)
-        (cases_Bool (is_due moment a.deadline))
+begun_on moment id a x d not_hung none = grind arith
 
 -- a context that has begun is one of the connection's calls
 pub comes_others : (l : LifeValue) (x y : ContextsValue) → y ≡ contexts_value x.drained x.conns (x.calls ++ l ∷ []) → KeepsOthers l.id.conn x y
-comes_others l x y y_is = subst (KeepsOthers l.id.conn x) (sym y_is) (record {
-  drained_is = refl;
-  conns_are = refl;
-  others_are = filter-append (λ (m : LifeValue). not (m.id.conn == l.id.conn)) x.calls (l ∷ [])
-      ∙ rw (eq-eqb l.id.conn l.id.conn refl) (append-nil (others l.id.conn x.calls));
-})
+comes_others l x y y_is = grind (arith, nat_tests, filter-append, eq-eqb, append-nil)
 
 -- the first branches of a call that begins start
 pub first_linked : (moment : ℕ) (id : CallId) (a : ArrivedCall) (x y z : ContextsValue) → is_life id x.calls ≡ false → y ≡ contexts_value x.drained x.conns (x.calls ++ life_by None id a ∷ [])
     → z ≡ first_started id moment a.plan (first_ones a) y → z ≡ contexts_value x.drained x.conns (x.calls ++ life_in none_over id (first_out a) (begun_live moment id a) ∷ [])
-first_linked moment id a x y z fresh y_is z_is =
-    z_is ∙ ap (first_started id moment a.plan (first_ones a)) y_is ∙ first_is id a moment (first_ones a) x fresh (call_itself id)
-    ∙ ap (λ bs. with_last x (life_on id a bs)) (sym (first_timed id a moment))
+first_linked moment id a x y z fresh y_is z_is = grind (arith, nat_tests, first_is, call_itself, with_last, life_on, first_timed)
 
 -- ---- the connection, on which it came
 
@@ -190,21 +110,7 @@ module _ {H : Type 0} where
   pub tied_more : (k l : HeldConnection) (v w : HookedContexts H) (lives : List LifeValue) → l.number ≡ k.number → l.closed ≡ k.closed → l.broken ≡ k.broken → l.hung_up ≡ k.hung_up → k.closed ≡ false → k.broken ≡ false
       → (next_held l).request ≡ (next_held k).request + 1 → linked_calls none_over l.calls ≡ linked_calls none_over k.calls ++ lives
       → w.standing ≡ contexts_value v.standing.drained v.standing.conns (v.standing.calls ++ lives) → own_calls k.number lives ≡ lives → TakesAtMostOne k.number v w → IsTied none_over k v → IsTied none_over l w
-  tied_more k l v w lives number closed broken hung opened whole more calls w_is own takes tied = record {
-    are = ap (λ n. own_contexts n w.standing) number ∙ ap (own_contexts k.number) w_is
-        ∙ ap (contexts_value v.standing.drained (own_peers k.number v.standing.conns)) (filter-append (λ (m : LifeValue). m.id.conn == k.number) v.standing.calls lives ∙ ap (λ ls. own_calls k.number v.standing.calls ++ ls) own)
-        ∙ ap (λ (x : ContextsValue). contexts_value x.drained x.conns (x.calls ++ lives)) tied.are
-        ∙ ap (λ ls. contexts_value v.standing.drained (if k.closed || k.broken then [] else peer k.number (ends_of v.standing k.number) ∷ []) ls) (sym calls)
-        ∙ ap (λ (x : ContextsValue). contexts_value x.drained (if k.closed || k.broken then [] else peer k.number (ends_of x k.number) ∷ []) (linked_calls none_over l.calls)) (sym w_ends)
-        ∙ ap (λ n. contexts_value w.standing.drained (if k.closed || k.broken then [] else peer n (ends_of w.standing n) ∷ []) (linked_calls none_over l.calls)) (sym number)
-        ∙ ap (λ b. contexts_value w.standing.drained (if b || k.broken then [] else peer l.number (ends_of w.standing l.number) ∷ []) (linked_calls none_over l.calls)) (sym closed)
-        ∙ ap (λ b. contexts_value w.standing.drained (if l.closed || b then [] else peer l.number (ends_of w.standing l.number) ∷ []) (linked_calls none_over l.calls)) (sym broken);
-    only_by_drain = λ o wh on. ap (ends_of w.standing) number ∙ ap (λ (x : ContextsValue). ends_of x k.number) w_ends ∙ tied.only_by_drain opened whole (sym hung ∙ on) ∙ ap (λ (x : ContextsValue). by_drain x.drained) (sym w_ends);
-    stocked = λ o wh stock is. stocked_more k l v w number more opened whole takes tied stock is;
-  }
-    where
-      w_ends : contexts_value w.standing.drained w.standing.conns [] ≡ contexts_value v.standing.drained v.standing.conns []
-      w_ends = ap (λ (x : ContextsValue). contexts_value x.drained x.conns []) w_is
+  tied_more k l v w lives number closed broken hung opened whole more calls w_is own takes tied = grind (arith, nat_tests, filter-append, stocked_more)
 
 module _ {H : Type 0} where
   pub stays_same : (v w : HookedContexts H) → w.stocks ≡ v.stocks → StocksStay v w
@@ -277,17 +183,7 @@ module _ {H : Type 0} (k : HeldConnection) (a b : Shared H) (s : Step) where
 
     -- it can't be kept
     pub begins_fails : (c : Shared H) → c ≡ b → MayFail k k a c
-    begins_fails c same = subst (MayFail k k a) (sym same) (record {
-      conn_is = refl;
-      begun_is = lent_begun at.rest;
-      rest = record {
-        plans_are = ap (λ (x : Shared H). x.plans) at.rest;
-        moment_is = lent_moment at.rest;
-        jobs_are = ap (λ (x : Shared H). x.jobs.jobs) at.rest ∙ sym (append-nil a.jobs.jobs);
-        waits = ap (λ (x : Shared H). x.jobs.waiting + waiting k.calls) at.rest;
-        others = begins_others;
-      };
-    })
+    begins_fails c same = grind (arith, nat_tests, begun_is, lent_begun, lent_moment, append-nil, begins_others)
 
     -- it is kept
     pub begins_enters : (l : HeldConnection) (c : Shared H) → Begins (begins b.moment None (next_held k) asked) k l b c → Enters s k l a c

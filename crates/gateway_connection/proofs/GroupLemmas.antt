@@ -1,22 +1,8 @@
 -- A call as it begins: its branches are given to its group.
-use Rattle.std.proofs.Common.{◌≡◌, ℕ, zero, suc, ◌+◌, ◌≤◌, ◌<◌, ◌-◌, min, Bool, true, false, List, [], ◌∷◌, ◌++◌, map, length, Option, None, Some, Result, Ok, refl, sym, ap, ◌∙◌, arith, ⊎_elim, append-nil}
-use Rattle.std.specs.Prelude.{IsTrue, if◌then◌else◌, nat_lt, slice_index_or, option_to_list}
-use Rattle.std.specs.List.{range_with_len}
-use Rattle.std.proofs.lemmas.Bool.{cases_lt, cases_Bool, lt-ltb, le-ltb, ltb-true, ltb-false}
-use Rattle.std.proofs.lemmas.List.{length-map}
+use Rattle.gateway_connection.specs.lemmas.Names.{◌≡◌, ℕ, zero, suc, ◌+◌, ◌≤◌, ◌<◌, ◌-◌, min, Bool, true, false, List, [], ◌∷◌, ◌++◌, map, length, Option, None, Some, Result, Ok, sym, ap, ◌∙◌, arith, ⊎_elim, append-nil, slice_index_or, IsTrue, if◌then◌else◌, nat_lt, option_to_list, range_with_len, cases_lt, cases_Bool, lt-ltb, le-ltb, ltb-true, ltb-false, length-map, length-map-range_with_len, get_or-map-range_with_len, map-range_with_len_more, sum_by_push, CallEvent, CallId, task_of, TaskValue, ArrivedCall, deadline_from, live_value, kept_value, IsKept, IsBegun, HasGone, nat_tests}
 use Rattle.std.proofs.lemmas.Simd.{map-map}
-use Rattle.std.proofs.lemmas.List.FromFn.{length-map-range_with_len, get_or-map-range_with_len, map-range_with_len_more}
-use Rattle.std.proofs.lemmas.List.Sums.{sum_by_push}
 use Rattle.std.proofs.Math.ListN.{get_or-eq_default}
 use Rattle.err_group.specs.GroupState.{GroupState, has_room}
-use Rattle.gateway_model.specs.declared.call_event.CallEvent.{CallEvent}
-use Rattle.gateway_model.specs.declared.id.CallId.{CallId}
-use Rattle.gateway_theory.specs.Begins.{first_deadlines, first_ones, first_out}
-use Rattle.gateway_theory.specs.Task.{task_of}
-use Rattle.gateway_theory.specs.Values.{TaskValue}
-use Rattle.gateway_theory.specs.LiveStands.{tasks_from}
-use Rattle.gateway_model.specs.Past.{ArrivedCall, deadline_from}
-use Rattle.gateway_connection.specs.KeptCall.{live_value, kept_value, IsKept, IsBegun, HasGone}
 use Rattle.gateway_connection.proofs.KeptLemmas.{outs}
 
 abbrev Tasks : Type 0
@@ -80,10 +66,7 @@ first_count k (suc n) =
     ∙ ⊎_elim (λ (lt : n < k). rw (lt-ltb n k lt) (omega (arith, lt))) (λ (ge : k ≤ n). rw (le-ltb n k ge) (omega (arith, ge))) (cases_lt n k)
 
 out_at : (n k i : ℕ) → k ≤ i → slice_index_or (map (λ j. nat_lt j k) (range_with_len 0 n)) i false ≡ false
-out_at n k i above =
-    ⊎_elim (λ (lt : i < n). get_or-map-range_with_len (λ j. nat_lt j k) 0 n i i false lt (omega arith) ∙ le-ltb i k above)
-    (λ (ge : n ≤ i). get_or-eq_default (map (λ j. nat_lt j k) (range_with_len 0 n)) false {n = i} (omega (arith, ge, length-map-range_with_len (λ j. nat_lt j k) 0 n)))
-    (cases_lt i n)
+out_at n k i above = grind (arith, nat_tests, get_or-map-range_with_len, le-ltb, get_or-eq_default, length-map-range_with_len)
 
 -- as many of the branches that start at once as have started
 pub begun_few : (id : CallId) (a : ArrivedCall) (n : ℕ) (g : Tasks) (tasks : List TaskValue) → HasGone id a n g tasks → length tasks ≡ min n a.plan.limit
@@ -92,33 +75,10 @@ begun_few id a n g tasks k = ap length k.first_are ∙ length-map-range_with_len
 pub begun_kept : (moment : ℕ) (id : CallId) (a : ArrivedCall) (n first : ℕ) (out : List Bool) (g : Tasks) (tasks : List TaskValue) (events : List CallEvent) (deadlines : List (Option ℕ)) → n ≡ length a.plan.branches → first ≡ min n a.plan.limit
     → out ≡ map (λ i. nat_lt i first) (range_with_len 0 n) → HasGone id a n g tasks → events ≡ []
     → deadlines ≡ map (λ (t : TaskValue). deadline_from moment t.asked.plan t.branch) tasks → IsKept id out g (Some (live_value a events deadlines))
-begun_kept moment id a n first out g tasks events deadlines n_is first_is out_is k events_are times_are = rw (events_are, out_is) (record {
-  active_is = k.active_is ∙ sym (first_count first n ∙ omega (arith, first_is));
-  live_is = record {
-    size_is = length-map-range_with_len (λ i. nat_lt i first) 0 n ∙ n_is;
-    timed = ap length times_are ∙ length-map tasks (λ (t : TaskValue). deadline_from moment t.asked.plan t.branch) ∙ begun_few id a n g tasks k ∙ omega (arith, n_is);
-    waiting_are = k.queue_is ∙ ap (λ m. map (task_of id a) (range_with_len (min m a.plan.limit) (m - min m a.plan.limit))) n_is ∙ ap (λ m. tasks_from m id a) same;
-    unstarted = λ j le. out_at n first j (omega (arith, first_is, n_is, le, same));
-  };
-})
-  where
-    same : min (length a.plan.branches) a.plan.limit ≡ min (length a.plan.branches) (a.plan.limit + 0)
-    same = omega arith
+begun_kept moment id a n first out g tasks events deadlines n_is first_is out_is k events_are times_are = grind (arith, nat_tests, first_count, length-map-range_with_len, length-map, begun_few, out_at)
 
 pub is_begun : (moment : ℕ) (id : CallId) (a asked : ArrivedCall) (n first : ℕ) (out : List Bool) (g : Tasks) (tasks : List TaskValue) (events : List CallEvent) (deadlines : List (Option ℕ)) → asked ≡ a → n ≡ length a.plan.branches
     → first ≡ min n a.plan.limit → out ≡ map (λ i. nat_lt i first) (range_with_len 0 n) → HasGone id a n g tasks → events ≡ []
     → deadlines ≡ map (λ (t : TaskValue). deadline_from moment t.asked.plan t.branch) tasks
     → IsBegun moment id a (kept_value id out g.queue (Some (live_value asked events deadlines))) tasks
-is_begun moment id a asked n first out g tasks events deadlines asked_is n_is first_is out_is k events_are times_are =
-    let ones : min n a.plan.limit ≡ first_ones a = omega (arith, n_is) in
-    let first_one : first ≡ first_ones a = omega (arith, first_is, ones) in
-    let queue : g.queue ≡ tasks_from (first_ones a) id a = k.queue_is ∙ ap (λ m. map (task_of id a) (range_with_len m (n - m))) ones ∙ ap (λ m. map (task_of id a) (range_with_len (first_ones a) (m - first_ones a))) n_is in
-    let outs_are : out ≡ first_out a = out_is ∙ ap (λ m. map (λ i. nat_lt i m) (range_with_len 0 n)) first_one ∙ ap (λ m. map (λ i. nat_lt i (first_ones a)) (range_with_len 0 m)) n_is in
-    let tasks_are : tasks ≡ map (task_of id a) (range_with_len 0 (first_ones a)) = k.first_are ∙ ap (λ m. map (task_of id a) (range_with_len 0 m)) ones in
-    let times : deadlines ≡ first_deadlines moment a =
-    times_are ∙ ap (map (λ (t : TaskValue). deadline_from moment t.asked.plan t.branch)) tasks_are
-    ∙ map-map (λ (t : TaskValue). deadline_from moment t.asked.plan t.branch) (task_of id a) (range_with_len 0 (first_ones a)) in
-    record {
-      call_is = rw (asked_is, events_are, queue, outs_are, times) refl;
-      first_are = k.first_are ∙ ap (λ m. map (task_of id a) (range_with_len 0 m)) ones;
-    }
+is_begun moment id a asked n first out g tasks events deadlines asked_is n_is first_is out_is k events_are times_are = grind (arith, nat_tests, map-map)

@@ -1,18 +1,5 @@
 -- A step keeps what a connection holds of its calls and slots.
-use Rattle.std.proofs.Common.{◌≡◌, ℕ, zero, suc, ◌+◌, ◌≤◌, ◌<◌, Bool, true, false, List, [], ◌∷◌, ◌++◌, length, map, None, refl, sym, ap, ◌∙◌, subst, arith, ⊎_elim, Some}
-use Rattle.std.specs.Prelude.{◌||◌, All, filter, slice_set, ◌==◌, slice_index_or}
-use Rattle.std.proofs.lemmas.Bool.{cases_Bool, cases_eq, eq-eqb}
-use Rattle.std.proofs.lemmas.List.{get_or-map, get_or_default, length-append, length-map}
-use Rattle.std.proofs.lemmas.List.Elements.{All-filter, All-push}
-use Rattle.http_pieces.specs.Request.{most_requests}
-use Rattle.gateway_model.specs.declared.id.CallId.{CallId}
-use Rattle.gateway_model.specs.Past.{call_id, is_call}
-use Rattle.gateway_theory.specs.Ends.{AreApart}
-use Rattle.gateway_theory.specs.Values.{KeptValue, call_at, HeldConnection}
-use Rattle.gateway_theory.specs.Store.{IsFound, given_up, kept_at, no_call}
-use Rattle.gateway_theory.specs.lemmas.LimitLemmas.{same_call}
-use Rattle.gateway_theory.specs.Held.{Holds, next_held}
-use Rattle.gateway_theory.specs.lemmas.StoreLemmas.{call_found, calls_filtered, calls_more}
+use Rattle.gateway_connection.specs.lemmas.Names.{◌≡◌, ℕ, zero, suc, ◌+◌, ◌≤◌, ◌<◌, Bool, true, false, List, [], ◌∷◌, ◌++◌, length, map, None, refl, sym, ap, ◌∙◌, subst, arith, Some, slice_index_or, ◌||◌, All, filter, slice_set, ◌==◌, get_or-map, get_or_default, length-append, length-map, All-filter, All-push, most_requests, CallId, call_id, is_call, AreApart, KeptValue, call_at, HeldConnection, IsFound, given_up, kept_at, no_call, Holds, next_held, call_found, calls_filtered, calls_more, nat_tests}
 
 -- what is so of each place is so of all
 pub at_all : (P : KeptValue → Type 0) (ks : List KeptValue) → ((j : ℕ) → j < length ks → P (kept_at j ks)) → All P ks
@@ -41,9 +28,7 @@ holds_ids k l number size ids on_open few dead h = record {
 
 -- .. and no call changes at all
 pub holds_as : (k l : HeldConnection) → l.number ≡ k.number → l.calls ≡ k.calls → l.closed ≡ k.closed → l.broken ≡ k.broken → (next_held l).request ≡ (next_held k).request → Holds k → Holds l
-holds_as k l number calls closed broken next h = holds_ids k l number (ap (λ (ks : List KeptValue). length ks) calls) (λ j lt. ap (λ ks. (kept_at j ks).id) calls)
-    (λ on. (sym closed ∙ on, omega (arith, next))) (let few = h.few in omega (arith, few, next))
-    (λ shut. subst (All (λ (c : KeptValue). c.call.live ≡ None)) (sym calls) (h.dead (ap (λ b. b || k.broken) (sym closed) ∙ ap (λ b. l.closed || b) (sym broken) ∙ shut))) h
+holds_as k l number calls closed broken next h = grind arith
 
 -- calls that are given up
 pub given_at : (ks : List KeptValue) (j : ℕ) → j < length ks → kept_at j (map given_up ks) ≡ given_up (kept_at j ks)
@@ -83,10 +68,7 @@ set_dead ks i new dead all = at_all (λ c. c.call.live ≡ None) (slice_set ks i
 
 pub holds_set : (k l : HeldConnection) (i : ℕ) (new : KeptValue) → l.number ≡ k.number → l.calls ≡ slice_set k.calls i new → l.closed ≡ k.closed → l.broken ≡ k.broken
     → (next_held l).request ≡ (next_held k).request → new.id ≡ (kept_at i k.calls).id → ((k.closed || k.broken) ≡ true → new.call.live ≡ None) → Holds k → Holds l
-holds_set k l i new number calls closed broken next same stays h = holds_ids k l number (ap (λ (ks : List KeptValue). length ks) calls ∙ set_size k.calls i new)
-    (λ j lt. ap (λ ks. (kept_at j ks).id) calls ∙ set_id k.calls i new same j lt) (λ on. (sym closed ∙ on, omega (arith, next))) (let few = h.few in omega (arith, few, next))
-    (λ shut. let was : (k.closed || k.broken) ≡ true = ap (λ b. b || k.broken) (sym closed) ∙ ap (λ b. l.closed || b) (sym broken) ∙ shut in
-    subst (All (λ (c : KeptValue). c.call.live ≡ None)) (sym calls) (set_dead k.calls i new (stays was) (h.dead was))) h
+holds_set k l i new number calls closed broken next same stays h = grind (arith, nat_tests, holds_ids, set_size, set_id, set_dead)
 
 -- some calls are left
 pub holds_filtered : (k l : HeldConnection) (p : KeptValue → Bool) → l.number ≡ k.number → l.calls ≡ filter p k.calls → l.closed ≡ k.closed → l.broken ≡ k.broken
@@ -105,13 +87,7 @@ holds_filtered k l p number calls closed broken next h = record {
 
 -- none is of the next request
 pub next_new : (k : HeldConnection) → k.closed ≡ false → Holds k → IsFound (next_held k) k.calls None
-next_new k on h = λ j within. ⊎_elim
-    (λ (e : is_call (kept_at j k.calls).id (next_held k) ≡ true).
-    let its : (kept_at j k.calls).id ≡ next_held k = same_call (kept_at j k.calls).id (next_held k) e in
-    let less = h.came on j no_call within in
-    absurd (omega (arith, less, ap (λ (d : CallId). d.request) its)))
-    (λ (n : is_call (kept_at j k.calls).id (next_held k) ≡ false). n)
-    (cases_Bool (is_call (kept_at j k.calls).id (next_held k)))
+next_new k on h = grind arith
 
 -- a call begins
 pub holds_begun : (k l : HeldConnection) (new : KeptValue) → l ≡ record k { slots = k.slots ++ None ∷ []; calls = k.calls ++ new ∷ [] } → new.id ≡ next_held k → k.closed ≡ false → k.broken ≡ false
@@ -138,10 +114,7 @@ found_call id items calls i x same f is =
     call_found id calls i f ∙ ap (λ (k : KeptValue). k.call) (sym (here_is items calls i x same (let lt = f.0 in omega (arith, lt, ap length same)) is))
 
 is_for : (k : HeldConnection) (i request : ℕ) (x : KeptValue) (b : Bool) → Holds k → i < length k.calls → x ≡ kept_at i k.calls → (x.id.request == request) ≡ b → is_call (kept_at i k.calls).id (call_id k.number request) ≡ b
-is_for k i request x b h lt x_is test =
-    let conn : (kept_at i k.calls).id.conn ≡ k.number = h.own i no_call lt in
-    let same : ((kept_at i k.calls).id.request == request) ≡ b = ap (λ (c : KeptValue). c.id.request == request) (sym x_is) ∙ test in
-    rw (eq-eqb (kept_at i k.calls).id.conn k.number conn, same) refl
+is_for k i request x b h lt x_is test = grind arith
 
 pub found_here : (k : HeldConnection) (i request : ℕ) (x : KeptValue) → Holds k → i < length k.calls → x ≡ kept_at i k.calls → (x.id.request == request) ≡ true
     → ((j : ℕ) → j < i → is_call (kept_at j k.calls).id (call_id k.number request) ≡ false) → IsFound (call_id k.number request) k.calls (Some i)
@@ -149,10 +122,4 @@ found_here k i request x h lt x_is test before = (lt, is_for k i request x true 
 
 pub not_here : (k : HeldConnection) (i request : ℕ) (x : KeptValue) → Holds k → i < length k.calls → x ≡ kept_at i k.calls → (x.id.request == request) ≡ false
     → ((j : ℕ) → j < i → is_call (kept_at j k.calls).id (call_id k.number request) ≡ false) → (j : ℕ) → j < i + 1 → is_call (kept_at j k.calls).id (call_id k.number request) ≡ false
-not_here k i request x h lt x_is test before = λ j less. before_or j less
-  where
-    before_or : (j : ℕ) → j < i + 1 → is_call (kept_at j k.calls).id (call_id k.number request) ≡ false
-    before_or j less = ⊎_elim
-        (λ (same : j ≡ i). ap (λ n. is_call (kept_at n k.calls).id (call_id k.number request)) same ∙ is_for k i request x false h lt x_is test)
-        (λ (ne : j ≡ i → ⊥). before j (omega (arith, less, ne)))
-        (cases_eq j i)
+not_here k i request x h lt x_is test before = grind arith

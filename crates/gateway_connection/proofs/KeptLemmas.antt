@@ -1,26 +1,10 @@
 -- A kept call: as many tasks are active as branches are out, and those that wait are the ones that have not started.
-use Rattle.std.proofs.Common.{◌≡◌, ℕ, zero, suc, ◌+◌, ◌≤◌, ◌<◌, ◌-◌, Bool, true, false, List, [], ◌∷◌, ◌++◌, map, length, drop, Option, None, Some, Result, Ok, Err, refl, sym, ap, ◌∙◌, subst, arith, ⊎_elim, inl, inr}
-use Rattle.std.specs.Prelude.{◌⊎◌, All, if◌then◌else◌, ◌==◌, slice_set, slice_index_or, slice_get, option_to_list}
-use Rattle.std.specs.List.{count_by, range_with_len}
-use Rattle.std.proofs.lemmas.Bool.{cases_lt, ne_eqb, eqb-true}
-use Rattle.std.proofs.lemmas.List.{get_or-set_other, length-set, length-append}
-use Rattle.std.proofs.lemmas.List.Sums.{sum_by-set}
-use Rattle.connect_codec.specs.declared.answer.Outcome.{Outcome}
+use Rattle.gateway_connection.specs.lemmas.Names.{◌≡◌, ℕ, ◌+◌, ◌≤◌, ◌<◌, ◌-◌, Bool, true, false, List, [], ◌∷◌, ◌++◌, map, length, drop, Option, None, Some, Result, Ok, Err, refl, sym, ap, ◌∙◌, subst, arith, slice_index_or, ◌⊎◌, All, if◌then◌else◌, ◌==◌, slice_set, slice_get, option_to_list, count_by, ne_eqb, eqb-true, get_or-set_other, length-set, length-append, sum_by-set, Outcome, CallEvent, CallId, CallRecord, task_of, job_at, TaskValue, KeptValue, ArrivedCall, IsLawful, record_of, deadlines_next, result_on, next_out, rest_of, first_of, LiveValue, live_value, kept_value, started_of, IsGoing, IsKept, IsStep, nat_tests}
 use Rattle.connect_codec.specs.declared.answer.Outcome.TheVariants.{Answer}
 use Rattle.err_group.specs.GroupState.{GroupState, Finishes, freed_by}
-use Rattle.gateway_model.specs.declared.call_event.CallEvent.{CallEvent}
 use Rattle.gateway_model.specs.declared.call_event.CallEvent.TheVariants.{Answer as Answered}
-use Rattle.gateway_model.specs.declared.id.CallId.{CallId}
-use Rattle.gateway_model.specs.CallRecord.{CallRecord}
 use Rattle.gateway_model.specs.Job.{JobValue}
-use Rattle.gateway_theory.specs.Task.{task_of, job_at}
-use Rattle.gateway_theory.specs.Values.{TaskValue, KeptValue}
 use Rattle.gateway_theory.specs.LiveStands.{tasks_from}
-use Rattle.gateway_model.specs.Past.{ArrivedCall, deadline_from}
-use Rattle.call_plan.specs.Plan.{IsLawful}
-use Rattle.gateway_model.specs.Queue.{record_of}
-use Rattle.gateway_theory.specs.Step.{deadlines_next, result_on, next_out, rest_of, first_of}
-use Rattle.gateway_connection.specs.KeptCall.{LiveValue, live_value, kept_value, started_of, IsGoing, IsKept, IsStep}
 use Rattle.gateway_theory.specs.lemmas.StepLemmas.{tasks_none, tasks_next}
 use Rattle.gateway_theory.specs.lemmas.Knowing.{index_in as within}
 
@@ -28,18 +12,11 @@ use Rattle.gateway_theory.specs.lemmas.Knowing.{index_in as within}
 abbrev pub outs : List Bool → ℕ
 outs out = count_by (λ b. b) out
 
-abbrev one_of : Bool → ℕ
-one_of b = if b then 1 else 0
-
 pub count_back : (out : List Bool) (i : ℕ) → slice_index_or out i false ≡ true → outs (slice_set out i false) + 1 ≡ outs out
-count_back out i it =
-    let moved : outs (slice_set out i false) + one_of (slice_index_or out i false) ≡ outs out + one_of false = sum_by-set one_of out i false false (within out i it) in
-    omega (arith, moved, ap one_of it)
+count_back out i it = grind (arith, nat_tests, sum_by-set, within)
 
 pub count_out : (out : List Bool) (i : ℕ) → i < length out → slice_index_or out i false ≡ false → outs (slice_set out i true) ≡ outs out + 1
-count_out out i lt not_so =
-    let moved : outs (slice_set out i true) + one_of (slice_index_or out i false) ≡ outs out + one_of true = sum_by-set one_of out i true false lt in
-    omega (arith, moved, ap one_of not_so)
+count_out out i lt not_so = grind (arith, nat_tests, sum_by-set)
 
 some_active : (id : CallId) (out : List Bool) (i : ℕ) (g : GroupState TaskValue (Unit {0})) (l : Option LiveValue) → IsKept id out g l → slice_index_or out i false ≡ true → 0 < g.active
 some_active id out i g l k it = omega (arith, k.active_is, count_back out i it)
@@ -58,10 +35,7 @@ late_kept id out i g h k it finishes =
 
 -- with its queue cleared, a call that ended keeps what is out
 pub ended_kept : (id : CallId) (out : List Bool) (g h : GroupState TaskValue (Unit {0})) (l : Option LiveValue) → IsKept id out g l → h ≡ record g { queue = [] } → IsKept id out h None
-ended_kept id out g h l k h_is = record {
-  active_is = ap (λ (x : GroupState TaskValue (Unit {0})). x.active) h_is ∙ k.active_is;
-  live_is = ap (λ (x : GroupState TaskValue (Unit {0})). x.queue) h_is;
-}
+ended_kept id out g h l k h_is = grind arith
 
 -- ---- an answer
 
@@ -75,20 +49,12 @@ pub record OneWaits (id : CallId) (queue : List TaskValue) (l : LiveValue) : Typ
   pub within : started_of l < length l.asked.plan.branches
 
 pub waits_or_not : (id : CallId) (out : List Bool) (queue : List TaskValue) (l : LiveValue) → IsGoing id out queue l → AllHave id queue l ⊎ OneWaits id queue l
-waits_or_not id out queue l g =
-    ⊎_elim (λ (lt : started_of l < length l.asked.plan.branches).
-    inr (record { first = g.waiting_are ∙ tasks_next (started_of l) id l.asked lt; within = lt }))
-    (λ (ge : length l.asked.plan.branches ≤ started_of l).
-    let all : started_of l ≡ length l.asked.plan.branches = omega (arith, ge) in
-    inl (record { none = g.waiting_are ∙ tasks_none (started_of l) id l.asked all; all = all }))
-    (cases_lt (started_of l) (length l.asked.plan.branches))
+waits_or_not id out queue l g = grind (arith, nat_tests, tasks_next, within, tasks_none)
 
 -- where the last answer is awaited, all branches have started
 pub last_waits_none : (id : CallId) (out : List Bool) (queue : List TaskValue) (l : LiveValue) → IsGoing id out queue l → IsLawful l.asked.plan
     → length l.events + 1 ≡ length l.asked.plan.branches → queue ≡ []
-last_waits_none id out queue l g lawful last =
-    let all : started_of l ≡ length l.asked.plan.branches = omega (arith, last, lawful.limited) in
-    g.waiting_are ∙ tasks_none (started_of l) id l.asked all
+last_waits_none id out queue l g lawful last = grind arith
 
 pub last_kept : (id : CallId) (out : List Bool) (i : ℕ) (g h : GroupState TaskValue (Unit {0})) (l : LiveValue) → IsKept id out g (Some l) → slice_index_or out i false ≡ true
     → g.queue ≡ [] → (0 < g.active → Finishes g h (Ok tt)) → IsKept id (slice_set out i false) h None
@@ -126,53 +92,7 @@ apart out i j it not_so e = let clash : false ≡ true = sym not_so ∙ ap (λ k
 pub going_kept : (moment : ℕ) (id : CallId) (out : List Bool) (i : ℕ) (e : CallEvent) (g h : GroupState TaskValue (Unit {0})) (l : LiveValue) → IsKept id out g (Some l) → slice_index_or out i false ≡ true
     → (0 < g.active → Finishes g h (Ok tt)) → IsKept id (next_out g.queue (slice_set out i false)) h
     (Some (live_value l.asked (l.events ++ e ∷ []) (l.deadlines ++ deadlines_next moment g.queue)))
-going_kept moment id out i e g h l k it finishes =
-    ⊎_elim (λ (a : AllHave id g.queue l). record {
-      active_is = f.active ∙ rw a.none (omega (arith, k.active_is, count_back out i it));
-      live_is = record {
-        size_is = rw a.none (length-set out i false ∙ k.live_is.size_is);
-        timed = rw a.none (length-append l.deadlines [] ∙ omega (arith, k.live_is.timed, more, a.all));
-        waiting_are = f.queue ∙ rw a.none (sym (tasks_none (started_of later) id l.asked (omega (arith, more, a.all))));
-        unstarted = λ j le. rw a.none (get_or-set_other out i j false false (apart out i j it (unstarted j (omega (arith, le, more)))) ∙ unstarted j (omega (arith, le, more)));
-      };
-    })
-    (λ (w : OneWaits id g.queue l).
-    let k_out : slice_index_or out (started_of l) false ≡ false = unstarted (started_of l) (omega arith) in
-    let k_back : slice_index_or (slice_set out i false) (started_of l) false ≡ false =
-    get_or-set_other out i (started_of l) false false (apart out i (started_of l) it k_out) ∙ k_out in
-    let there : started_of l < length (slice_set out i false) = omega (arith, w.within, length-set out i false, k.live_is.size_is) in record {
-      active_is = f.active ∙ ap (λ b. if b then g.active - 1 else g.active) (some_queued w) ∙ k.active_is
-          ∙ rw w.first (omega (arith, count_back out i it, count_out (slice_set out i false) (started_of l) there k_back));
-      live_is = record {
-        size_is = rw w.first (length-set (slice_set out i false) (started_of l) true ∙ length-set out i false ∙ k.live_is.size_is);
-        timed = rw w.first (length-append l.deadlines (deadline_from moment l.asked.plan (started_of l) ∷ []) ∙ omega (arith, k.live_is.timed, one_more w));
-        waiting_are = f.queue ∙ rw w.first (ap (λ n. tasks_from n id l.asked) (one_more w));
-        unstarted = λ j le. rw w.first
-            (get_or-set_other (slice_set out i false) (started_of l) j true false (λ same. absurd (omega (arith, same, le, one_more w)))
-            ∙ get_or-set_other out i j false false (apart out i j it (unstarted j (omega (arith, le, more)))) ∙ unstarted j (omega (arith, le, more)));
-      };
-    })
-    (waits_or_not id out g.queue l k.live_is)
-  where
-    f : Finishes g h (Ok tt)
-    f = finishes (some_active id out i g (Some l) k it)
-
-    later : LiveValue
-    later = live_value l.asked (l.events ++ e ∷ []) (l.deadlines ++ deadlines_next moment g.queue)
-
-    unstarted : (j : ℕ) → started_of l ≤ j → slice_index_or out j false ≡ false
-    unstarted = k.live_is.unstarted
-
-    more : started_of l ≤ started_of later
-    more = omega (arith, length-append l.events (e ∷ []))
-
-    some_queued : OneWaits id g.queue l → (length g.queue == 0) ≡ false
-    some_queued w =
-        let more : length g.queue ≡ suc (length (tasks_from (started_of l + 1) id l.asked)) = ap (λ q. length q) w.first in
-        ne_eqb (length g.queue) 0 (λ e. absurd (omega (arith, e, more)))
-
-    one_more : OneWaits id g.queue l → started_of l + 1 ≡ started_of later
-    one_more w = omega (arith, length-append l.events (e ∷ []), w.within)
+going_kept moment id out i e g h l k it finishes = search (arith, nat_tests, count_back, length-set, length-append, tasks_none, get_or-set_other, apart, count_out, waits_or_not, some_active, ne_eqb)
 
 -- ---- as the checker gives them
 
@@ -192,13 +112,7 @@ answer_last_kept id out i g h was new l k was_is it lawful last finishes new_is 
 -- with the branches that have started, and the one that starts, a call has no more deadlines than branches
 pub room_next : (id : CallId) (out : List Bool) (i : ℕ) (g : GroupState TaskValue (Unit {0})) (was : Option LiveValue) (l : LiveValue) (next : Option TaskValue) → IsKept id out g was → was ≡ Some l
     → slice_index_or out i false ≡ true → next ≡ (freed_by (Ok tt) g).next → length l.deadlines + length (option_to_list next) ≤ length l.asked.plan.branches
-room_next id out i g was l next k was_is it next_as =
-    let live : IsKept id out g (Some l) = subst (λ x. IsKept id out g x) was_is k in
-    let n : next ≡ slice_get g.queue 0 = next_is id out i g was next (Ok tt) k it next_as in
-    rw n (⊎_elim
-    (λ (a : AllHave id g.queue l). rw a.none (omega (arith, live.live_is.timed, a.all)))
-    (λ (w : OneWaits id g.queue l). rw w.first (omega (arith, live.live_is.timed, w.within)))
-    (waits_or_not id out g.queue l live.live_is))
+room_next id out i g was l next k was_is it next_as = grind arith
 
 pub answer_going_kept : (moment : ℕ) (id : CallId) (out after : List Bool) (i : ℕ) (e : CallEvent) (g h : GroupState TaskValue (Unit {0})) (was : Option LiveValue) (l later : LiveValue) (next : Option TaskValue)
     → IsKept id out g was → was ≡ Some l → slice_index_or out i false ≡ true → next ≡ (freed_by (Ok tt) g).next → (0 < g.active → Finishes g h (Ok tt))
@@ -217,24 +131,14 @@ answer_going_kept moment id out after i e g h was l later next k was_is it next_
 
 -- the job of the first of a call's tasks is of that call
 first_its : (moment : ℕ) (id : CallId) (k : ℕ) (a : ArrivedCall) (queue : List TaskValue) → queue ≡ tasks_from k id a → All (λ (j : JobValue). j.call ≡ id) (first_of moment queue)
-first_its moment id k a queue e = subst (λ q. All (λ (j : JobValue). j.call ≡ id) (first_of moment q)) (sym e) (of_range (range_with_len k (length a.plan.branches - k)))
-  where
-    of_range : (ns : List ℕ) → All (λ (j : JobValue). j.call ≡ id) (first_of moment (map (task_of id a) ns))
-    of_range [] j d lt = absurd (omega (arith, lt))
-    of_range (n ∷ ns) zero d lt = refl
-    of_range (n ∷ ns) (suc j) d lt = absurd (omega (arith, lt))
+first_its moment id k a queue e = grind arith
 
 pub last_step : (moment : ℕ) (old : KeptValue) (id : CallId) (out : List Bool) (i : ℕ) (body : List ℕ) (g h : GroupState TaskValue (Unit {0})) (was new : Option LiveValue) (l : LiveValue)
     (decided : CallRecord) (next : Option TaskValue) (outcome : Outcome)
     → kept_value id out g.queue was ≡ old → IsKept id out g was → was ≡ Some l → slice_index_or out i false ≡ true → outcome ≡ Answer body → IsLawful l.asked.plan
     → (length l.events + 1 == length l.asked.plan.branches) ≡ true → decided ≡ record_of l.asked (l.deadlines ++ deadlines_next moment (option_to_list next)) (l.events ++ Answered i body ∷ []) → next ≡ (freed_by (Ok tt) g).next → new ≡ None
     → IsStep moment old (kept_value id (slice_set out i false) h.queue new) (Some decided) next (result_on moment i outcome (slice_set old.call.out i false) old.call.live)
-last_step moment old id out i body g h was new l decided next outcome old_is k was_is it outcome_is lawful last decided_is next_as new_is =
-    let live : IsKept id out g (Some l) = subst (λ x. IsKept id out g x) was_is k in
-    let none : g.queue ≡ [] = last_waits_none id out g.queue l live.live_is lawful (eqb-true (length l.events + 1) (length l.asked.plan.branches) last) in
-    let next_none : next ≡ None = next_is id out i g was next (Ok tt) k it next_as ∙ ap (λ q. slice_get q 0) none in
-    subst (λ x. IsStep moment x (kept_value id (slice_set out i false) h.queue new) (Some decided) next (result_on moment i outcome (slice_set x.call.out i false) x.call.live)) old_is
-    (rw (was_is, outcome_is, none, last, decided_is, next_none, new_is) (record { new_is = refl; reply_is = refl; jobs_are = refl; alone = inr refl; its = λ j d lt. absurd (omega (arith, lt)) }))
+last_step moment old id out i body g h was new l decided next outcome old_is k was_is it outcome_is lawful last decided_is next_as new_is = grind arith
 
 pub going_step : (moment : ℕ) (old : KeptValue) (id : CallId) (out after : List Bool) (i : ℕ) (body : List ℕ) (g h : GroupState TaskValue (Unit {0})) (was : Option LiveValue) (l later : LiveValue)
     (next : Option TaskValue) (outcome : Outcome)
@@ -242,18 +146,4 @@ pub going_step : (moment : ℕ) (old : KeptValue) (id : CallId) (out after : Lis
     → (length l.events + 1 == length l.asked.plan.branches) ≡ false → next ≡ (freed_by (Ok tt) g).next → (0 < g.active → Finishes g h (Ok tt))
     → after ≡ next_out (option_to_list next) (slice_set out i false) → later ≡ live_value l.asked (l.events ++ Answered i body ∷ []) (l.deadlines ++ deadlines_next moment (option_to_list next))
     → IsStep moment old (kept_value id after h.queue (Some later)) None next (result_on moment i outcome (slice_set old.call.out i false) old.call.live)
-going_step moment old id out after i body g h was l later next outcome old_is k was_is it outcome_is last next_as finishes after_is later_is =
-    let live : IsKept id out g (Some l) = subst (λ x. IsKept id out g x) was_is k in
-    let n : next ≡ slice_get g.queue 0 = next_is id out i g was next (Ok tt) k it next_as in
-    let f : Finishes g h (Ok tt) = finishes (some_active id out i g was k it) in
-    let out_is : after ≡ next_out g.queue (slice_set out i false) =
-    after_is ∙ ap (λ m. next_out (option_to_list m) (slice_set out i false)) n ∙ outs_next g.queue (slice_set out i false) in
-    let times : deadlines_next moment (option_to_list next) ≡ deadlines_next moment g.queue = ap (λ m. deadlines_next moment (option_to_list m)) n ∙ times_next moment g.queue in
-    subst (λ x. IsStep moment x (kept_value id after h.queue (Some later)) None next (result_on moment i outcome (slice_set x.call.out i false) x.call.live)) old_is
-    (rw (was_is, outcome_is, last) (record {
-      new_is = rw (out_is, later_is, times, f.queue, rest_next g.queue) refl;
-      reply_is = refl;
-      jobs_are = ap (λ m. map (job_at moment) (option_to_list m)) n ∙ jobs_next moment g.queue;
-      alone = inl refl;
-      its = first_its moment id (started_of l) l.asked g.queue live.live_is.waiting_are;
-    }))
+going_step moment old id out after i body g h was l later next outcome old_is k was_is it outcome_is last next_as finishes after_is later_is = grind (arith, nat_tests, next_is, some_active, outs_next, times_next, rest_next, jobs_next, first_its)

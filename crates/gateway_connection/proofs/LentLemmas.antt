@@ -1,26 +1,6 @@
 -- What a step leaves of what it was lent, and the connection's tie, over several parts of a step.
-use Rattle.std.proofs.Common.{◌≡◌, ℕ, zero, suc, ◌<◌, refl, sym, ap, ◌∙◌, List, [], ◌∷◌, ◌++◌, Option, Some, None, Bool, true, false, map, length, append-nil, append_assoc, subst, arith}
-use Rattle.std.specs.Prelude.{◌||◌, filter, if◌then◌else◌, not, slice_set, All}
-use Rattle.std.specs.List.{list_any, remove}
-use Rattle.std.proofs.lemmas.List.{length-map}
-use Rattle.std.proofs.lemmas.List.Sums.{sum_by-cons}
+use Rattle.gateway_connection.specs.lemmas.Names.{◌≡◌, ℕ, zero, suc, ◌<◌, refl, sym, ap, ◌∙◌, List, [], ◌∷◌, ◌++◌, Some, None, Bool, true, false, map, length, append-nil, append_assoc, subst, arith, ◌||◌, filter, if◌then◌else◌, not, slice_set, All, list_any, remove, length-map, sum_by-cons, CallId, is_call, contexts_value, ends_of, peer, closed, HookedContexts, AreApart, KeptValue, CallState, call_at, HeldConnection, is_spent, IsFound, given_up, kept_at, waiting, waiting_in, all_stay, same_call, Forgets, back_held, broken_held, forgotten, lost_held, stays, call_apart, call_found, call_itself, LeavesRest, none_over, IsTied, Shared, nat_tests}
 use Rattle.gateway_model.specs.Job.{JobValue}
-use Rattle.gateway_model.specs.declared.id.CallId.{CallId}
-use Rattle.gateway_model.specs.Past.{is_call}
-use Rattle.gateway_replies.specs.Contexts.{contexts_value, ends_of, peer, ContextsValue, closed}
-use Rattle.gateway_replies.specs.Hooks.{HookedContexts}
-use Rattle.gateway_theory.specs.Ends.{AreApart}
-use Rattle.gateway_theory.specs.Values.{KeptValue, CallState, Live, call_at, HeldConnection}
-use Rattle.gateway_theory.specs.Results.{back_kept, is_spent}
-use Rattle.gateway_theory.specs.Store.{IsFound, given_up, kept_at, waiting, waiting_in}
-use Rattle.gateway_theory.specs.lemmas.Cases.{all_stay}
-use Rattle.gateway_theory.specs.lemmas.LimitLemmas.{same_call}
-use Rattle.gateway_theory.specs.Held.{Forgets, back_held, broken_held, forgotten, lost_held, stays}
-use Rattle.gateway_theory.specs.lemmas.StoreLemmas.{call_apart, call_found, call_itself}
-use Rattle.gateway_connection.specs.Lent.{LeavesRest}
-use Rattle.gateway_connection.specs.Linked.{none_over, linked_calls}
-use Rattle.gateway_connection.specs.OwnContexts.{IsTied, LeavesOthers, own_contexts}
-use Rattle.gateway_connection.specs.declared.shared.Shared.{Shared}
 use Rattle.gateway_connection.specs.lemmas.OwnContexts.{others_none, others_then, closed_own}
 use Rattle.gateway_connection.proofs.DoneLemmas.{set_waits}
 use Rattle.gateway_connection.proofs.LinkedLemmas.{dead_life, forgot_linked, set_alike, dead_calls}
@@ -28,13 +8,7 @@ use Rattle.gateway_connection.proofs.SettleLemmas.{tied_calls}
 
 module _ {H : Type 0} where
   pub rest_then : (jobs more : List JobValue) (k l m : HeldConnection) (s t u : Shared H) → l.number ≡ k.number → LeavesRest jobs k l s t → LeavesRest more l m t u → LeavesRest (jobs ++ more) k m s u
-  rest_then jobs more k l m s t u number a b = record {
-    plans_are = b.plans_are ∙ a.plans_are;
-    moment_is = b.moment_is ∙ a.moment_is;
-    jobs_are = b.jobs_are ∙ ap (λ js. js ++ more) a.jobs_are ∙ append_assoc s.jobs.jobs jobs more;
-    waits = let first = a.waits in let second = b.waits in omega (arith, first, second);
-    others = others_then k.number s.contexts t.contexts u.contexts a.others (subst (λ n. LeavesOthers n t.contexts u.contexts) number b.others);
-  }
+  rest_then jobs more k l m s t u number a b = search (arith, nat_tests, append_assoc, others_then)
 
   -- nothing was done
   pub rest_none : (k : HeldConnection) (s : Shared H) → LeavesRest [] k k s s
@@ -50,14 +24,10 @@ waits_dead : (k : KeptValue) → k.call.live ≡ None → waiting_in k ≡ 0
 waits_dead k e = rw e refl
 
 pub back_waits : (k : HeldConnection) (i branch : ℕ) → i < length k.calls → (kept_at i k.calls).call.live ≡ None → waiting (back_held i branch k).calls ≡ waiting k.calls
-back_waits k i branch lt dead =
-    let one = set_waits k.calls i (back_kept branch (kept_at i k.calls)) lt in
-    omega (arith, one, waits_dead (kept_at i k.calls) dead, waits_dead (back_kept branch (kept_at i k.calls)) refl)
+back_waits k i branch lt dead = grind (arith, nat_tests, set_waits, waits_dead)
 
 pub tied_back : {H : Type 0} (k : HeldConnection) (i branch : ℕ) (c : HookedContexts H) → i < length k.calls → (kept_at i k.calls).call.live ≡ None → IsTied none_over k c → IsTied none_over (back_held i branch k) c
-tied_back k i branch c lt dead tied = tied_calls none_over k (back_held i branch k) c c refl refl refl refl (omega arith) refl refl refl
-    (tied.are ∙ ap (λ ls. contexts_value c.standing.drained (if k.closed || k.broken then [] else peer k.number (ends_of c.standing k.number) ∷ []) ls)
-    (sym (set_alike none_over k.calls i (back_kept branch (kept_at i k.calls)) lt (sym (dead_life none_over (kept_at i k.calls) dead))))) tied
+tied_back k i branch c lt dead tied = grind (arith, nat_tests, tied_calls, set_alike, dead_life)
 
 -- of one that broke
 given_set : (ks : List KeptValue) (i : ℕ) (new : KeptValue) → i < length ks → map given_up (slice_set ks i new) ≡ slice_set (map given_up ks) i (given_up new)
@@ -87,16 +57,7 @@ bool_set (b ∷ out) (suc i) = ap (λ xs. b ∷ xs) (bool_set out i)
 
 -- where the branch had come back before it broke, it is as if it comes back after
 pub back_twice : (k : HeldConnection) (i branch : ℕ) → i < length k.calls → back_held i branch (broken_held (back_held i branch k)) ≡ lost_held i branch k
-back_twice k i branch lt =
-    let x : KeptValue = kept_at i k.calls in
-    let set : map given_up (slice_set k.calls i (back_kept branch x)) ≡ slice_set (map given_up k.calls) i (given_up (back_kept branch x)) = given_set k.calls i (back_kept branch x) lt in
-    let size : i < length (map given_up k.calls) = omega (arith, lt, length-map k.calls given_up) in
-    ap (λ ks. record k { calls = ks; broken = true })
-    (ap (λ ks. slice_set ks i (back_kept branch (kept_at i ks))) set
-    ∙ ap (λ y. slice_set (slice_set (map given_up k.calls) i (given_up (back_kept branch x))) i (back_kept branch y)) (set_there (map given_up k.calls) i (given_up (back_kept branch x)) size)
-    ∙ set_twice (map given_up k.calls) i (given_up (back_kept branch x)) (back_kept branch (given_up (back_kept branch x)))
-    ∙ ap (λ o. slice_set (map given_up k.calls) i (record { id = x.id; call = record { out = o; live = None } })) (bool_set x.call.out branch)
-    ∙ sym (ap (λ y. slice_set (map given_up k.calls) i (back_kept branch y)) (given_there k.calls i lt)))
+back_twice k i branch lt = grind (arith, nat_tests, given_set, length-map, set_there, set_twice, bool_set, given_there)
 
 -- of one that breaks no call can be decided
 pub broken_dead : (k : HeldConnection) (i : ℕ) → i < length k.calls → (kept_at i (broken_held k).calls).call.live ≡ None
@@ -108,11 +69,7 @@ broken_size k = length-map k.calls given_up
 -- ---- a call that is forgotten
 
 pub spent_dead : (c : CallState) → is_spent c ≡ true → c.live ≡ None
-spent_dead c spent = by c.live refl
-  where
-    by : (o : Option Live) → c.live ≡ o → c.live ≡ None
-    by None o_is = o_is
-    by (Some l) o_is = absurd (let clash : false ≡ true = sym (rw o_is refl) ∙ spent in cc)
+spent_dead c spent = grind arith
 
 pub without_is : (id : CallId) (ks : List KeptValue) (i : ℕ) → IsFound id ks (Some i) → AreApart ks → filter (λ (k : KeptValue). not (is_call k.id id)) ks ≡ remove ks i
 without_is id [] i f apart = absurd (let lt = f.0 in omega (arith, lt))
@@ -160,18 +117,10 @@ module _ (k l : HeldConnection) (i : ℕ) (lt : i < length k.calls) (apart : Are
 -- ---- one that is closed or broken
 
 both : (a b : Bool) → a ≡ false → b ≡ false → (a || b) ≡ true → ⊥
-both false false p q e = cc
-both true b p q e = cc
-both false true p q e = cc
+both a b h2 h3 h4 = grind (arith, nat_tests)
 
 module _ {H : Type 0} where
   -- one that is closed or broken has none
   pub tied_shut : (l : HeldConnection) (v w : HookedContexts H) → w.standing ≡ closed l.number v.standing → (l.closed || l.broken) ≡ true → All (λ (c : KeptValue). c.call.live ≡ None) l.calls
       → IsTied none_over l w
-  tied_shut l v w w_is shut dead = record {
-    are = ap (own_contexts l.number) w_is ∙ closed_own l.number v.standing
-        ∙ sym (ap (λ b. contexts_value w.standing.drained (if b then [] else peer l.number (ends_of w.standing l.number) ∷ []) (linked_calls none_over l.calls)) shut
-        ∙ ap (contexts_value w.standing.drained []) (dead_calls none_over l.calls dead) ∙ ap (λ (x : ContextsValue). contexts_value x.drained [] []) w_is);
-    only_by_drain = λ opened whole on. absurd (both l.closed l.broken opened whole shut);
-    stocked = λ opened whole stock is. absurd (both l.closed l.broken opened whole shut);
-  }
+  tied_shut l v w w_is shut dead = grind (arith, nat_tests, closed_own, dead_calls, both)

@@ -1,20 +1,5 @@
 -- The contexts of a connection's calls, of which these are over.
-use Rattle.std.proofs.Common.{◌≡◌, ℕ, ◌<◌, zero, suc, refl, sym, ap, ◌∙◌, List, [], ◌∷◌, ◌++◌, Option, Some, None, true, false, ⊎_elim, subst, length, arith}
-use Rattle.std.specs.Prelude.{◌||◌, All, not, is_some, filter, slice_set}
-use Rattle.std.specs.List.{list_any}
-use Rattle.std.proofs.lemmas.Bool.{cases_Bool}
-use Rattle.std.proofs.lemmas.List.Elements.{All-head, All-tail}
-use Rattle.std.proofs.lemmas.List.Folds.{list_any-append}
-use Rattle.gateway_model.specs.declared.id.CallId.{CallId}
-use Rattle.gateway_model.specs.Past.{is_call}
-use Rattle.gateway_replies.specs.Contexts.{LifeValue, LivesApart, is_life}
-use Rattle.gateway_theory.specs.Ends.{AreApart}
-use Rattle.gateway_theory.specs.Values.{KeptValue, Live}
-use Rattle.gateway_theory.specs.Store.{IsFound, kept_at}
-use Rattle.gateway_theory.specs.lemmas.Cases.{all_stay, or_true}
-use Rattle.gateway_theory.specs.lemmas.LimitLemmas.{same_call}
-use Rattle.gateway_theory.specs.lemmas.StoreLemmas.{call_apart, call_itself}
-use Rattle.gateway_connection.specs.Linked.{Over, linked_calls, life_in, lives_in}
+use Rattle.gateway_connection.specs.lemmas.Names.{◌≡◌, ℕ, ◌<◌, zero, suc, refl, sym, ap, ◌∙◌, List, [], ◌∷◌, ◌++◌, Option, Some, None, true, false, ⊎_elim, subst, length, arith, All, not, is_some, filter, slice_set, list_any, cases_Bool, All-head, All-tail, CallId, is_call, LifeValue, LivesApart, is_life, AreApart, KeptValue, Live, IsFound, kept_at, all_stay, same_call, call_apart, call_itself, Over, linked_calls, life_in, lives_in, nat_tests}
 use Rattle.gateway_connection.proofs.TimedLemmas.{mapped, none_mapped}
 
 module _ (over : Over) where
@@ -28,9 +13,7 @@ module _ (over : Over) where
   pub live_linked : (ks : List KeptValue) (i : ℕ) (l : Live) → (kept_at i ks).call.live ≡ Some l → is_life (kept_at i ks).id (linked_calls over ks) ≡ true
   live_linked [] i l is = cc
   live_linked (k ∷ ks) zero l is = rw (live_life k l is, call_itself k.id) refl
-  live_linked (k ∷ ks) (suc i) l is =
-      list_any-append (λ (m : LifeValue). is_call m.id (kept_at i ks).id) (lives_in over k) (linked_calls over ks)
-      ∙ ap (λ b. list_any (λ (m : LifeValue). is_call m.id (kept_at i ks).id) (lives_in over k) || b) (live_linked ks i l is) ∙ or_true (list_any (λ (m : LifeValue). is_call m.id (kept_at i ks).id) (lives_in over k))
+  live_linked (k ∷ ks) (suc i) l is = grind (arith, live_linked ks i l is)
 
   pub set_alike : (ks : List KeptValue) (i : ℕ) (y : KeptValue) → i < length ks → lives_in over y ≡ lives_in over (kept_at i ks) → linked_calls over (slice_set ks i y) ≡ linked_calls over ks
   set_alike [] i y lt same = refl
@@ -66,10 +49,7 @@ module _ (over : Over) where
   pub set_live : (h : LifeValue → LifeValue) (ks : List KeptValue) (i : ℕ) (y : KeptValue) (l : Live) → LivesApart (linked_calls over ks) → i < length ks → (kept_at i ks).call.live ≡ Some l
       → lives_in over y ≡ h (life_in over (kept_at i ks).id (kept_at i ks).call.out l) ∷ [] → linked_calls over (slice_set ks i y) ≡ mapped (kept_at i ks).id h (linked_calls over ks)
   set_live h [] i y l apart lt is after = absurd (omega (arith, lt))
-  set_live h (k ∷ ks) zero y l apart lt is after =
-      let far : list_any (λ (m : LifeValue). is_call m.id k.id) (linked_calls over ks) ≡ false =
-      (subst (λ ls. LivesApart (ls ++ linked_calls over ks)) (live_life k l is) apart).0 in
-      rw (after, live_life k l is, call_itself k.id) (ap (λ ls. h (life_in over k.id k.call.out l) ∷ ls) (sym (none_mapped k.id h (linked_calls over ks) far)))
+  set_live h (k ∷ ks) zero y l apart lt is after = grind (arith, nat_tests, live_life, call_itself, none_mapped)
   set_live h (k ∷ ks) (suc i) y l apart lt is after = by (λ tail. set_live h ks i y l tail (omega (arith, lt)) is after) k.call.live refl
     where
       by : (LivesApart (linked_calls over ks) → linked_calls over (slice_set ks i y) ≡ mapped (kept_at i ks).id h (linked_calls over ks)) → (o : Option Live)
@@ -110,9 +90,7 @@ life_if_live k (Some l) o_is some = (l, o_is)
 
 module _ (over : Over) where
   pub live_has_life : (ks : List KeptValue) (i : ℕ) (x : KeptValue) → x ≡ kept_at i ks → is_some x.call.live ≡ true → is_life x.id (linked_calls over ks) ≡ true
-  live_has_life ks i x x_is some =
-      let live = life_if_live (kept_at i ks) (kept_at i ks).call.live refl (ap (λ (k : KeptValue). is_some k.call.live) (sym x_is) ∙ some) in
-      ap (λ (k : KeptValue). is_life k.id (linked_calls over ks)) x_is ∙ live_linked over ks i live.0 live.1
+  live_has_life ks i x x_is some = grind (arith, nat_tests, life_if_live, live_linked)
 
   pub forgot_linked : (id : CallId) (ks : List KeptValue) (i : ℕ) → IsFound id ks (Some i) → AreApart ks → (kept_at i ks).call.live ≡ None
       → linked_calls over (filter (λ (k : KeptValue). not (is_call k.id id)) ks) ≡ linked_calls over ks

@@ -1,62 +1,24 @@
 -- What a connection's reader read.
-use Rattle.std.proofs.Common.{◌≡◌, ℕ, ◌+◌, ◌≤◌, ◌<◌, refl, sym, ap, ◌∙◌, List, [], ◌∷◌, ◌++◌, Option, Some, None, Ok, Err, true, false, length, subst, arith, take, inl, inr}
-use Rattle.std.specs.Prelude.{◌⊎◌, IfNone, IfSome, MatchOption}
-use Rattle.std.proofs.lemmas.List.{length-append}
-use Rattle.http_pieces.specs.Reader.{Done, HasRead, Partial, ReaderValue, Reading, Stopped, Waiting, after_request, is_over, state_of}
-use Rattle.http_pieces.specs.Request.{HttpRequest, most_requests}
+use Rattle.gateway_connection.specs.lemmas.Names.{◌≡◌, ℕ, ◌+◌, ◌≤◌, ◌<◌, refl, sym, ap, ◌∙◌, List, [], ◌∷◌, ◌++◌, Option, Some, None, Ok, Err, true, false, length, subst, arith, take, inl, inr, ◌⊎◌, IfNone, IfSome, MatchOption, length-append, HasRead, ReaderValue, Reading, Stopped, Waiting, after_request, state_of, HttpRequest, most_requests, PlanRecord, Coming, HasBrought, MayGive, ReadsOn, arriving_in, broken_held, coming_of, hears, hung_held, next_held, read_held, broke, came, read, unread, HeldConnection, HungUp, told, HookedContexts, KeepsHooks, Brings, BringsNone, Feeds, ReadsAll, ReadsNone, LeavesRest, MayStep, none_over, over_by, IsTied, Shared, nat_tests}
+use Rattle.http_pieces.specs.Reader.{is_over}
 use Rattle.http_pieces.specs.declared.refusal.Refusal.{Refusal}
 use Rattle.http_pieces.specs.declared.state.State.TheVariants.{Refused as StateRefused}
-use Rattle.call_plan.specs.Plan.{PlanRecord}
-use Rattle.gateway_model.specs.Occurrence.{Coming}
 use Rattle.gateway_theory.specs.lemmas.ServedPieces.{few_given, no_refusal}
-use Rattle.gateway_theory.specs.Core.{is_waiting, refusals}
-use Rattle.gateway_theory.specs.Held.{HasBrought, MayGive, ReadsOn, arriving_in, broken_held, coming_of, hears, hung_held, next_held, read_held, broke, came, read, unread}
-use Rattle.gateway_theory.specs.Values.{HeldConnection}
+use Rattle.gateway_theory.specs.Core.{is_waiting}
 use Rattle.gateway_theory.specs.declared.fault.StepFault.{StepFault}
-use Rattle.gateway_theory.specs.declared.trigger.Trigger.TheVariants.{HungUp}
-use Rattle.gateway_replies.specs.Contexts.{told}
-use Rattle.gateway_replies.specs.Hooks.{HookedContexts, KeepsHooks}
-use Rattle.gateway_connection.specs.Comes.{Brings, BringsNone, Feeds, ReadsAll, ReadsNone}
-use Rattle.gateway_connection.specs.Comes as comes
-use Rattle.gateway_connection.specs.Lent.{LeavesRest, MayStep}
-use Rattle.gateway_connection.specs.Linked.{none_over, over_by}
-use Rattle.gateway_connection.specs.OwnContexts.{IsTied, LeavesContexts}
-use Rattle.gateway_connection.specs.declared.shared.Shared.{Shared}
 use Rattle.gateway_connection.specs.lemmas.OwnContexts.{hung_leaves, others_same, others_then}
 use Rattle.gateway_connection.specs.lemmas.OwnTold.{hung_tied}
 use Rattle.gateway_connection.proofs.LentLemmas.{rest_conn, rest_none, rest_then}
+use Rattle.gateway_connection.specs.Comes as comes
 
 -- what comes has room
 pub read_room : (plans : List PlanRecord) (n : ℕ) (bytes : List ℕ) (request : Option HttpRequest) (k : HeldConnection) (reader : ReaderValue) → is_over k.reader.reading ≡ false → HasBrought k
     → ReadsOn n request bytes k.reader reader → (x : Coming) → coming_of plans request reader.reading ≡ Some x → (next_held k).request < most_requests
-read_room plans n bytes (Some q) k reader going b r x is =
-    let reads : HasRead reader (b.text ++ take n bytes) (b.given ++ q ∷ []) = r.gives.reads (b.text ++ take n bytes) b.given (r.reads.reads b.text b.given b.reads) in
-    let most = few_given reader (b.text ++ take n bytes) (b.given ++ q ∷ []) reads in
-    let came = b.came in
-    let none = no_refusal k.reader.reading going in
-    omega (arith, most, came, none, length-append b.given (q ∷ []))
-read_room plans n bytes None k reader going b r x is = by reader.reading is refl
-  where
-    reads : HasRead reader (b.text ++ take n bytes) b.given
-    reads = subst (λ y. HasRead y (b.text ++ take n bytes) b.given) (sym r.gives.0) (r.reads.reads b.text b.given b.reads)
-
-    by : (y : Reading) → coming_of plans None y ≡ Some x → reader.reading ≡ y → (next_held k).request < most_requests
-    by (Partial left) e y_is = absurd (cc)
-    by (Waiting q) e y_is = absurd (cc)
-    by Done e y_is = absurd (cc)
-    by (Stopped refusal) e y_is =
-        let most = few_given reader (b.text ++ take n bytes) b.given reads in
-        let came = b.came in
-        let none = no_refusal k.reader.reading going in
-        let one : refusals reader.reading ≡ 1 = ap refusals y_is in
-        omega (arith, most, came, none, one)
+read_room plans n bytes request k reader h6 h7 h8 x h10 = grind (arith, nat_tests, few_given, no_refusal, length-append)
 
 -- a stream that was refused, by what its reader says
 pub refused_by : (r : Reading) (refusal : Refusal) → state_of r ≡ StateRefused refusal → r ≡ Stopped refusal
-refused_by (Partial left) refusal e = absurd (cc)
-refused_by (Waiting q) refusal e = absurd (cc)
-refused_by (Stopped x) refusal e = let same : x ≡ refusal = cc in ap Stopped same
-refused_by Done refusal e = absurd (cc)
+refused_by r refusal h2 = grind (arith, nat_tests)
 
 -- ---- a push, and what is taken behind it
 
@@ -64,14 +26,7 @@ refused_by Done refusal e = absurd (cc)
 pub gives_by : (request : Option HttpRequest) (old new : ReaderValue) → ((bytes : List ℕ) (given : List HttpRequest) → HasRead old bytes given → MatchOption request (HasRead new bytes given) (λ q. HasRead new bytes (given ++ q ∷ [])))
     → ((q : HttpRequest) → old.reading ≡ Waiting q → request ≡ Some q) → IfSome request (λ q. old.reading ≡ Waiting q) → IfSome request (λ q. new ≡ record old { taken = old.taken + 1; reading = after_request q }) → IfNone request (new ≡ old)
     → MayGive request old new
-gives_by (Some q) old new reads waits gives after none = record { waited = gives; reads = reads; after = ap (λ (r : ReaderValue). r.reading) after }
-gives_by None old new reads waits gives after none = (none, by old.reading refl)
-  where
-    by : (r : Reading) → old.reading ≡ r → is_waiting old.reading ≡ false
-    by (Partial left) is = ap is_waiting is
-    by (Waiting q) is = absurd (let clash : None ≡ Some q = waits q is in cc)
-    by (Stopped refusal) is = ap is_waiting is
-    by Done is = ap is_waiting is
+gives_by request old new h3 h4 h5 h6 h7 = grind (arith, nat_tests)
 
 moves_by : (old : ReaderValue) (n : ℕ) → (0 < n) ⊎ ((q : HttpRequest) × (old.reading ≡ Waiting q)) → is_waiting old.reading ≡ false → 0 < n
 moves_by old n (inl lt) still = lt
@@ -86,11 +41,7 @@ reads_by n request bytes old pushed new within reads moves gives =
 module _ {H : Type 0} where
   -- what is read changes no context
   pub read_may : (k : HeldConnection) (reader : ReaderValue) (s : Shared H) → MayStep none_over k s → MayStep none_over (read_held reader k) s
-  read_may k reader s m = record {
-    tied = record { are = m.tied.are; only_by_drain = m.tied.only_by_drain; stocked = m.tied.stocked };
-    waits = m.waits;
-    early = m.early;
-  }
+  read_may k reader s m = grind arith
 
   read_tied : (k : HeldConnection) (reader : ReaderValue) (x : HookedContexts H) → IsTied none_over k x → IsTied none_over (read_held reader k) x
   read_tied k reader x t = record { are = t.are; only_by_drain = t.only_by_drain; stocked = t.stocked }
@@ -134,11 +85,7 @@ module _ {H : Type 0} where
   -- a fault, after which it broke
   pub none_feeds : (bytes : List ℕ) (fault : StepFault) (k l m : HeldConnection) (a b d : Shared H) → hears k ≡ true → is_over k.reader.reading ≡ false → ReadsNone bytes fault k l a b
       → m ≡ broken_held l → LeavesRest [] l m b d → d.begun ≡ b.begun → Feeds bytes (Err fault) k m a d
-  none_feeds bytes fault k l m a b d on going (comes.unread f_is l_is b_is) m_is rest begun = record {
-    jobs = [];
-    takes = unread on going (ap (λ f. Err f) f_is) (m_is ∙ ap broken_held l_is) refl (begun ∙ ap (λ (x : Shared H). x.begun) b_is);
-    rest = subst (λ x. LeavesRest [] k m x d) b_is (subst (λ x. LeavesRest [] x m b d) l_is rest);
-  }
+  none_feeds bytes fault k l m a b d on going (comes.unread f_is l_is b_is) m_is rest begun = grind arith
   none_feeds bytes fault k l m a b d on going (comes.read n request reader reads brings) m_is rest begun = by (coming_of a.plans request reader.reading) refl brings
     where
       by : (x : Option Coming) → coming_of a.plans request reader.reading ≡ x → BringsNone x fault (read_held reader k) l a b → Feeds bytes (Err fault) k m a d
@@ -159,11 +106,4 @@ module _ {H : Type 0} where
 
   pub hung_rest : (k l : HeldConnection) (s t : Shared H) (x : HookedContexts H) → x.standing ≡ told (HungUp k.number) s.contexts.standing → KeepsHooks s.contexts x
       → LeavesRest [] (hung_held k) l (record s { contexts = x }) t → LeavesRest [] k l s t
-  hung_rest k l s t x is keeps rest = record {
-    plans_are = rest.plans_are;
-    moment_is = rest.moment_is;
-    jobs_are = rest.jobs_are;
-    waits = rest.waits;
-    others = others_then k.number s.contexts x t.contexts
-        (others_same k.number s.contexts x (subst (λ y. LeavesContexts k.number s.contexts.standing y) (sym is) (hung_leaves k.number s.contexts.standing)) keeps.stocks_are) rest.others;
-  }
+  hung_rest k l s t x is keeps rest = grind (arith, nat_tests, others_then, others_same, hung_leaves)

@@ -1,37 +1,13 @@
 -- A result, as a connection takes it.
-use Rattle.std.proofs.Common.{◌≡◌, ℕ, zero, suc, ◌+◌, ◌-◌, ◌≤◌, ◌<◌, refl, sym, ap, ◌∙◌, List, [], ◌∷◌, Option, Some, None, Bool, true, false, map, length, subst, arith, ⊎_elim, inr}
-use Rattle.std.specs.Prelude.{◌||◌, if◌then◌else◌, is_none, is_some, nat_lt, option_to_list, slice_set}
-use Rattle.connect_codec.specs.declared.answer.Outcome.{Outcome}
-use Rattle.gateway_model.specs.CallRecord.{CallRecord}
-use Rattle.gateway_model.specs.Past.{call_id}
-use Rattle.gateway_model.specs.declared.entry.ReplyEntry.{ReplyEntry}
-use Rattle.gateway_model.specs.declared.entry.ReplyEntry.TheVariants.{Call as Calling}
+use Rattle.gateway_connection.specs.lemmas.Names.{◌≡◌, ℕ, zero, suc, ◌+◌, ◌-◌, ◌≤◌, ◌<◌, refl, sym, ap, ◌∙◌, List, [], ◌∷◌, Option, Some, None, Bool, true, false, length, subst, arith, ⊎_elim, ◌||◌, if◌then◌else◌, is_none, is_some, nat_lt, slice_set, Outcome, CallRecord, call_id, ReplyEntry, Call as Calling, ContextsValue, KeepsOthers, contexts_value, ends_of, is_life, peer, without, HookedContexts, fill_at, AreApart, KeptValue, Live, HeldConnection, slot_at, back_kept, stepped_kept, Step, has_out, IsFound, kept_at, waiting, same_call, Forgets, TakesStarved, back_held, broken_held, late, lost, lost_held, replied, result_in, settled, settled_held, stepped_held, Settles, TakesAt, TakesFrom, Unsettled, JobsValue, LeavesRest, linked_calls, none_over, IsTied, LeavesContexts, LeavesOthers, own_contexts, Shared, nat_tests}
 use Rattle.gateway_model.specs.declared.seen.Seen.{Seen}
 use Rattle.gateway_model.specs.declared.seen.Seen.TheVariants.{Counted, Late, Unknown}
-use Rattle.gateway_replies.specs.Contexts.{ContextsValue, KeepsOthers, contexts_value, ends_of, is_life, peer, without}
-use Rattle.gateway_replies.specs.Hooks.{HookedContexts}
 use Rattle.gateway_theory.specs.Breaks.{seen_by}
-use Rattle.gateway_theory.specs.Conn.{fill_at}
-use Rattle.gateway_theory.specs.Ends.{AreApart}
-use Rattle.gateway_theory.specs.Values.{KeptValue, Live, HeldConnection}
-use Rattle.gateway_theory.specs.Machine.{slot_at}
-use Rattle.gateway_theory.specs.Results.{back_kept, stepped_kept}
-use Rattle.gateway_theory.specs.Step.{Step, has_out}
-use Rattle.gateway_theory.specs.Store.{IsFound, kept_at, waiting}
-use Rattle.gateway_theory.specs.Task.{job_at}
 use Rattle.gateway_theory.specs.declared.fault.Took.{Took}
-use Rattle.gateway_theory.specs.lemmas.LimitLemmas.{same_call}
-use Rattle.gateway_theory.specs.Held.{Forgets, TakesStarved, back_held, broken_held, late, lost, lost_held, replied, result_in, settled, settled_held, stepped_held}
-use Rattle.gateway_connection.specs.Ends.{Settles, TakesAt, TakesFrom, Unsettled}
-use Rattle.gateway_connection.specs.Jobs.{JobsValue}
-use Rattle.gateway_connection.specs.Lent.{LeavesRest}
-use Rattle.gateway_connection.specs.Linked.{linked_calls, none_over}
-use Rattle.gateway_connection.specs.OwnContexts.{IsTied, LeavesContexts, LeavesOthers, own_contexts}
-use Rattle.gateway_connection.specs.declared.shared.Shared.{Shared}
 use Rattle.gateway_connection.specs.lemmas.OwnContexts.{is_life_own, keeps_leaves, leaves_then, others_same, without_leaves, without_own}
 use Rattle.gateway_connection.proofs.HoldsLemmas.{given_at, set_size}
 use Rattle.gateway_connection.proofs.LentLemmas.{back_twice, back_waits, broken_dead, broken_size, forgets_tied, forgets_waits, rest_conn, rest_then, tied_back}
-use Rattle.gateway_connection.proofs.SettleLemmas.{decided_back, step_is, tied_calls}
+use Rattle.gateway_connection.proofs.SettleLemmas.{step_is, tied_calls}
 
 pub none_live : (o : Option Live) → is_some o ≡ false → o ≡ None
 none_live None e = refl
@@ -46,12 +22,7 @@ seen_is x branch out = sym (ap (λ b. if b then (if is_some x.call.live then Cou
 
 -- a reply in its slot is nothing to the calls
 pub replied_calls : (request : ℕ) (o : Option ReplyEntry) (k : HeldConnection) → (replied request o k).calls ≡ k.calls
-replied_calls request None k = refl
-replied_calls request (Some e) k = by (nat_lt request k.taken)
-  where
-    by : (b : Bool) → (if b then k else record k { slots = fill_at (request - k.taken) e k.slots }).calls ≡ k.calls
-    by true = refl
-    by false = refl
+replied_calls request o k = grind (arith, nat_tests)
 
 -- whatever holds of the connection with as many slots
 pub replied_same : (request : ℕ) (e : ReplyEntry) (k : HeldConnection) (P : HeldConnection → Type 0) → P k → ((slots : List (Option ReplyEntry)) → length slots ≡ length k.slots → P (record k { slots = slots })) → P (replied request (Some e) k)
@@ -119,17 +90,10 @@ module _ {H : Type 0} (k : HeldConnection) (a : Shared H) (request i branch : �
     number = ⊎_elim (λ (same : l ≡ k). ap (λ (w : HeldConnection). w.number) same) (λ (back : l ≡ back_held i branch k). ap (λ (w : HeldConnection). w.number) back) u.conn_is
 
     lost_is : lost_held i branch l ≡ lost_held i branch k
-    lost_is = ⊎_elim
-        (λ (same : l ≡ k). ap (lost_held i branch) same)
-        (λ (back : l ≡ back_held i branch k). ap (lost_held i branch) back ∙ back_twice k i branch found.0)
-        u.conn_is
+    lost_is = grind (arith, nat_tests, back_twice)
 
     l_its : (kept_at i l.calls).id ≡ call_id k.number request
-    l_its = ⊎_elim
-        (λ (same : l ≡ k). ap (λ (w : HeldConnection). (kept_at i w.calls).id) same)
-        (λ (back : l ≡ back_held i branch k). ap (λ (w : HeldConnection). (kept_at i w.calls).id) back ∙ ap (λ (w : KeptValue). w.id) (set_there k.calls i (back_kept branch (kept_at i k.calls)) found.0))
-        u.conn_is
-        ∙ id_is
+    l_its = grind (arith, nat_tests, set_there, id_is)
 
     pub result_lost : TakesFrom request branch outcome (record { seen = seen; broke = true }) k m a c
     result_lost = record {
@@ -188,14 +152,7 @@ module _ {H : Type 0} (i branch : ℕ) (outcome : Outcome) (k l : HeldConnection
 
   -- it is not decided
   pub settles_on : TakesAt i branch outcome None k l a b → Settles i (result_in a.moment i branch outcome k) k l a b
-  settles_on t = record {
-    conn_is = t.conn_is ∙ new_is None t ∙ ap (λ o. replied (kept_at i k.calls).id.request o (stepped_held i (result_in a.moment i branch outcome k) k)) t.step.reply_is;
-    tied = subst (λ x. IsTied none_over x b.contexts) (sym t.conn_is) (tied_calls none_over k (record k { calls = slice_set k.calls i t.new }) a.contexts b.contexts refl refl refl refl (omega arith) t.keeps.drained_is t.keeps.conns_are
-        t.stocks_are t.own tied);
-    begun_is = t.begun_is;
-    its = t.step.its;
-    rest = subst (λ js. LeavesRest js k l a b) t.step.jobs_are t.rest;
-  }
+  settles_on t = grind arith
 
   module _ (r : CallRecord) (t : TakesAt i branch outcome (Some r) k l a b) where
     -- it has a context still
@@ -256,30 +213,12 @@ module _ {H : Type 0} (i branch : ℕ) (outcome : Outcome) (k l : HeldConnection
   -- its reply finds no memory
   pub decided_fails : (r : CallRecord) → TakesAt i branch outcome (Some r) k l a b → (c : Shared H) → c.plans ≡ b.plans → c.moment ≡ b.moment → c.jobs ≡ b.jobs → c.begun ≡ b.begun
       → KeepsOthers k.number b.contexts.standing c.contexts.standing → c.contexts.stocks ≡ b.contexts.stocks → Unsettled i branch k l a c
-  decided_fails r t c plans moment jobs begun keeps stocks =
-      let back = decided_back a.moment branch outcome (kept_at i k.calls) t.new r t.next t.step in
-      record {
-        live = back.1.1;
-        conn_is = inr (t.conn_is ∙ ap (λ y. record k { calls = slice_set k.calls i y }) back.0);
-        begun_is = begun ∙ t.begun_is;
-        rest = subst (λ js. LeavesRest js k l a c) (ap (λ n. map (job_at a.moment) (option_to_list n)) back.1.0) (record {
-          plans_are = plans ∙ t.rest.plans_are;
-          moment_is = moment ∙ t.rest.moment_is;
-          jobs_are = ap (λ (q : JobsValue). q.jobs) jobs ∙ t.rest.jobs_are;
-          waits = let was = t.rest.waits in omega (arith, was, ap (λ (q : JobsValue). q.waiting) jobs);
-          others = others_same k.number a.contexts c.contexts
-              (leaves_then k.number a.contexts.standing b.contexts.standing c.contexts.standing (keeps_leaves k.number a.contexts.standing b.contexts.standing t.keeps) (keeps_leaves k.number b.contexts.standing c.contexts.standing keeps))
-              (stocks ∙ t.stocks_are);
-        });
-      }
+  decided_fails r t c plans moment jobs begun keeps stocks = grind arith
 
 -- a result that could not be settled changed no more than its call
 module _ {H : Type 0} (i branch : ℕ) (k l : HeldConnection) (a b : Shared H) (u : Unsettled i branch k l a b) where
   pub unsettled_size : length l.calls ≡ length k.calls
-  unsettled_size = ⊎_elim
-      (λ (same : l ≡ k). ap (λ (w : HeldConnection). length w.calls) same)
-      (λ (back : l ≡ back_held i branch k). ap (λ (w : HeldConnection). length w.calls) back ∙ set_size k.calls i (back_kept branch (kept_at i k.calls)))
-      u.conn_is
+  unsettled_size = grind (arith, nat_tests, set_size)
 
   pub unsettled_waits : waiting k.calls ≤ a.jobs.waiting → waiting l.calls ≤ b.jobs.waiting
   unsettled_waits le = let same = u.rest.waits in omega (arith, le, same)

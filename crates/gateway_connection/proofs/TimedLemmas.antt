@@ -1,21 +1,5 @@
 -- The contexts of branches, as their call begins and as it goes on.
-use Rattle.std.proofs.Common.{◌≡◌, ℕ, zero, suc, ◌+◌, ◌-◌, ◌<◌, ◌≤◌, Bool, true, false, List, [], ◌∷◌, ◌++◌, map, length, Option, None, Some, refl, sym, ap, ◌∙◌, arith, ⊎_elim, append-nil}
-use Rattle.std.specs.Prelude.{◌==◌, ◌||◌, nat_lt, if◌then◌else◌, slice_get, slice_index_or, slice_set, option_map, option_and_then}
-use Rattle.std.specs.Option.{option_or}
-use Rattle.std.specs.List.{range_with_len}
-use Rattle.std.proofs.lemmas.Bool.{cases_Bool, eq-eqb, lt-ltb, ne_eqb, or_parts}
-use Rattle.std.proofs.lemmas.List.FromFn.{length-map-range_with_len, get_or-map-range_with_len, map-range_with_len_more}
-use Rattle.call_contexts.specs.Standing.{drop_branch}
-use Rattle.call_plan.specs.Plan.{PlanRecord}
-use Rattle.gateway_model.specs.declared.id.CallId.{CallId}
-use Rattle.gateway_model.specs.Past.{ArrivedCall, deadline_from, is_call}
-use Rattle.gateway_replies.specs.Contexts.{ContextsValue, Ended, KeepsOthers, LifeValue, TimedBranch, contexts_value, finished, is_life, on_branches, others, with_branches}
-use Rattle.gateway_connection.specs.KeptCall.{GoesOn}
-use Rattle.gateway_connection.specs.Linked.{Over, branch_started, first_started, none_over, timed}
-use Rattle.gateway_theory.specs.Begins.{first_deadlines, first_ones, first_out}
-use Rattle.gateway_theory.specs.Step.{deadlines_in, deadlines_next, next_out}
-use Rattle.gateway_theory.specs.Values.{Live}
-use Rattle.gateway_theory.specs.Task.{task_of}
+use Rattle.gateway_connection.specs.lemmas.Names.{◌≡◌, ℕ, zero, suc, ◌+◌, ◌-◌, ◌<◌, ◌≤◌, Bool, true, false, List, [], ◌∷◌, ◌++◌, map, length, Option, None, Some, refl, sym, ap, ◌∙◌, arith, ⊎_elim, append-nil, slice_index_or, ◌==◌, ◌||◌, if◌then◌else◌, slice_get, slice_set, option_map, option_and_then, option_or, range_with_len, cases_Bool, eq-eqb, lt-ltb, ne_eqb, or_parts, length-map-range_with_len, get_or-map-range_with_len, map-range_with_len_more, drop_branch, PlanRecord, CallId, ArrivedCall, deadline_from, is_call, ContextsValue, Ended, KeepsOthers, LifeValue, TimedBranch, contexts_value, finished, is_life, on_branches, others, with_branches, GoesOn, Over, branch_started, first_started, none_over, timed, first_deadlines, first_out, deadlines_in, deadlines_next, next_out, Live, task_of, nat_tests}
 
 -- ---- the branches of a list of deadlines
 
@@ -50,12 +34,7 @@ module _ (over : Over) (id : CallId) (call : Option ℕ) where
   pub timed_next : (k : ℕ) (out : List Bool) (ds : List (Option ℕ)) (d : Option ℕ) → length ds < length out
       → timed over id call k (deadlines_in (slice_set out (length ds) true) (ds ++ d ∷ [])) ≡ timed over id call k (deadlines_in out ds) ++ timed over id call (k + length ds) (d ∷ [])
   timed_next k [] ds d lt = absurd (omega (arith, lt))
-  timed_next k (b ∷ out) [] d lt = first d ∙ ap (λ n. timed over id call n (d ∷ [])) (let e : k ≡ k + 0 = omega arith in e)
-      ∙ sym (ap (λ bs. bs ++ timed over id call (k + 0) (d ∷ [])) (timed_nones (suc k) out))
-    where
-      first : (d : Option ℕ) → timed over id call k (d ∷ deadlines_in out []) ≡ timed over id call k (d ∷ [])
-      first None = timed_nones (suc k) out
-      first (Some at) = ap (λ bs. record { branch = k; deadline = at; ended = option_or (over id call) (over id (Some at)) } ∷ bs) (timed_nones (suc k) out)
+  timed_next k (b ∷ out) [] d lt = grind (arith, nat_tests, timed_nones)
   timed_next k (b ∷ out) (e ∷ ds) d lt = by (if b then e else None) (timed_next (suc k) out ds d (omega (arith, lt))
       ∙ ap (λ n. timed over id call (suc k) (deadlines_in out ds) ++ timed over id call n (d ∷ [])) (let e : suc k + length ds ≡ k + suc (length ds) = omega arith in e))
     where
@@ -76,11 +55,7 @@ module _ (over : Over) (id : CallId) (call : Option ℕ) where
   pub timed_dropped : (k i : ℕ) (out : List Bool) (ds : List (Option ℕ)) → timed over id call k (deadlines_in (slice_set out i false) ds) ≡ drop_branch (k + i) (timed over id call k (deadlines_in out ds))
   timed_dropped k i [] ds = refl
   timed_dropped k zero (b ∷ out) [] = timed_nones (suc k) out ∙ sym (ap (drop_branch (k + 0)) (timed_nones (suc k) out))
-  timed_dropped k zero (b ∷ out) (d ∷ ds) = by (if b then d else None)
-    where
-      by : (o : Option ℕ) → timed over id call (suc k) (deadlines_in out ds) ≡ drop_branch (k + 0) (timed over id call k (o ∷ deadlines_in out ds))
-      by None = sym (none_dropped (k + 0) (suc k) (deadlines_in out ds) (omega arith))
-      by (Some at) = let its : (k == (k + 0)) ≡ true = eq-eqb k (k + 0) (let e : k ≡ k + 0 = omega arith in e) in rw its refl
+  timed_dropped k zero (b ∷ out) (d ∷ ds) = grind (arith, nat_tests, none_dropped, eq-eqb)
   timed_dropped k (suc i) (b ∷ out) [] = timed_nones (suc k) (slice_set out i false) ∙ sym (ap (drop_branch (k + suc i)) (timed_nones (suc k) out))
   timed_dropped k (suc i) (b ∷ out) (d ∷ ds) = by (if b then d else None) (timed_dropped (suc k) i out ds
       ∙ ap (λ n. drop_branch n (timed over id call (suc k) (deadlines_in out ds))) (let e : suc k + i ≡ k + suc i = omega arith in e))
@@ -94,10 +69,7 @@ module _ (over : Over) (id : CallId) (call : Option ℕ) where
 
   dropped_more : (n : ℕ) (bs cs : List TimedBranch) → drop_branch n cs ≡ cs → drop_branch n (bs ++ cs) ≡ drop_branch n bs ++ cs
   dropped_more n [] cs same = same
-  dropped_more n (b ∷ bs) cs same = ⊎_elim
-      (λ (its : (b.branch == n) ≡ true). rw its refl)
-      (λ (off : (b.branch == n) ≡ false). rw off (ap (λ xs. b ∷ xs) (dropped_more n bs cs same)))
-      (cases_Bool (b.branch == n))
+  dropped_more n (b ∷ bs) cs same = grind (arith, dropped_more n bs cs same)
 
 -- ---- the calls of the contexts
 
@@ -166,10 +138,7 @@ first_known id moment plan (suc n) c = started_known id id n (deadline_from mome
 
 pub first_others : (id : CallId) (moment : ℕ) (plan : PlanRecord) (n : ℕ) (c : ContextsValue) → KeepsOthers id.conn c (first_started id moment plan n c)
 first_others id moment plan zero c = record { drained_is = refl; conns_are = refl; others_are = refl }
-first_others id moment plan (suc n) c =
-    let first = first_others id moment plan n c in
-    let one = started_others id n (deadline_from moment plan n) (first_started id moment plan n c) in
-    record { drained_is = one.drained_is ∙ first.drained_is; conns_are = one.conns_are ∙ first.conns_are; others_are = one.others_are ∙ first.others_are }
+first_others id moment plan (suc n) c = grind (arith, nat_tests, first_others id moment plan n c, started_others)
 
 -- ---- a call that begins
 
@@ -198,23 +167,12 @@ first_is id a moment (suc n) c fresh its =
     ∙ ap (λ bs. with_last c (life_on id a bs)) (sym (timed_more none_over id a.deadline 0 ds d) ∙ ap (timed none_over id a.deadline 0) (sym more))
 
 pub first_timed : (id : CallId) (a : ArrivedCall) (moment : ℕ) → timed none_over id a.deadline 0 (deadlines_in (first_out a) (first_deadlines moment a)) ≡ timed none_over id a.deadline 0 (first_deadlines moment a)
-first_timed id a moment =
-    let n : ℕ = first_ones a in
-    let m : ℕ = length a.plan.branches in
-    let size : length (first_deadlines moment a) ≡ n = length-map-range_with_len (deadline_from moment a.plan) 0 n in
-    let all : length (first_out a) ≡ m = length-map-range_with_len (λ i. nat_lt i n) 0 m in
-    timed_all none_over id a.deadline 0 (first_out a) (first_deadlines moment a) (omega (arith, size, all))
-    (λ j lt. get_or-map-range_with_len (λ i. nat_lt i n) 0 m j j false (omega (arith, lt, size)) (omega arith) ∙ lt-ltb j n (omega (arith, lt, size)))
+first_timed id a moment = grind (arith, nat_tests, length-map-range_with_len, timed_all, get_or-map-range_with_len, lt-ltb)
 
 -- ---- a call that goes on
 
 on_same : (id : CallId) (f g : LifeValue → List TimedBranch) (c : ContextsValue) → ((l : LifeValue) → f l ≡ g l) → on_branches id f c ≡ on_branches id g c
-on_same id f g c same = ap (contexts_value c.drained c.conns) (by c.calls)
-  where
-    by : (ls : List LifeValue) → mapped id (λ l. with_branches (f l) l) ls ≡ mapped id (λ l. with_branches (g l) l) ls
-    by [] = refl
-    by (l ∷ ls) = ap (λ bs. (if is_call l.id id then with_branches bs l else l) ∷ mapped id (λ l. with_branches (f l) l) ls) (same l)
-        ∙ ap (λ ms. (if is_call l.id id then with_branches (g l) l else l) ∷ ms) (by ls)
+on_same id f g c same = grind arith
 
 on_twice : (id : CallId) (f g : LifeValue → List TimedBranch) (c : ContextsValue) → on_branches id g (on_branches id f c) ≡ on_branches id (λ l. g (with_branches (f l) l)) c
 on_twice id f g c = ap (contexts_value c.drained c.conns) (by c.calls)
@@ -252,9 +210,7 @@ next_in id a moment k n zero out ds n_is r_is size =
     let none : deadline_from moment a.plan n ≡ None = ap (λ b. option_map (λ t. moment + t) (option_and_then (λ b. b.timeout_ms) b)) past in
     ap (λ es. timed none_over id a.deadline k (deadlines_in out es)) (append-nil ds)
     ∙ sym (ap (λ d. timed none_over id a.deadline k (deadlines_in out ds) ++ timed none_over id a.deadline (k + length ds) (d ∷ [])) none ∙ append-nil (timed none_over id a.deadline k (deadlines_in out ds)))
-next_in id a moment k n (suc r) out ds n_is r_is size =
-    ap (λ m. timed none_over id a.deadline k (deadlines_in (slice_set out m true) (ds ++ deadline_from moment a.plan n ∷ []))) n_is
-    ∙ timed_next none_over id a.deadline k out ds (deadline_from moment a.plan n) (omega (arith, n_is, r_is, size))
+next_in id a moment k n (suc r) out ds n_is r_is size = grind (arith, nat_tests, timed_next)
 
 set_length : (out : List Bool) (i : ℕ) (b : Bool) → length (slice_set out i b) ≡ length out
 set_length [] i b = refl
@@ -265,18 +221,4 @@ set_length (x ∷ out) (suc i) b = ap suc (set_length out i b)
 pub passed_timed : (id : CallId) (moment branch : ℕ) (out : List Bool) (l : Live) → GoesOn id out l → slice_index_or out branch false ≡ true
     → timed none_over id l.asked.deadline 0 (deadlines_in (next_out l.waiting (slice_set out branch false)) (l.deadlines ++ deadlines_next moment l.waiting))
     ≡ drop_branch branch (timed none_over id l.asked.deadline 0 (deadlines_in out l.deadlines) ++ started_of (length l.deadlines) (deadline_from moment l.asked.plan (length l.deadlines)) None)
-passed_timed id moment branch out l goes is_out =
-    let n : ℕ = length l.deadlines in
-    let d : Option ℕ = deadline_from moment l.asked.plan n in
-    let below : branch < n = ⊎_elim
-    (λ (y : nat_lt branch n ≡ true). Rattle.std.proofs.lemmas.Bool.ltb-true branch n y)
-    (λ (no : nat_lt branch n ≡ false). absurd (let clash : true ≡ false = sym is_out ∙ goes.unstarted branch (Rattle.std.proofs.lemmas.Bool.ltb-false branch n no) in cc))
-    (cases_Bool (nat_lt branch n)) in
-    ap (λ ts. timed none_over id l.asked.deadline 0 (deadlines_in (next_out ts (slice_set out branch false)) (l.deadlines ++ deadlines_next moment ts))) goes.waiting_are
-    ∙ next_in id l.asked moment 0 n (length l.asked.plan.branches - n) (slice_set out branch false) l.deadlines refl refl (set_length out branch false ∙ goes.size_is)
-    ∙ ap (λ m. timed none_over id l.asked.deadline 0 (deadlines_in (slice_set out branch false) l.deadlines) ++ timed none_over id l.asked.deadline m (d ∷ [])) (let e : 0 + n ≡ n = omega arith in e)
-    ∙ ap (λ bs. bs ++ timed none_over id l.asked.deadline n (d ∷ []))
-    (timed_dropped none_over id l.asked.deadline 0 branch out l.deadlines ∙ ap (λ m. drop_branch m (timed none_over id l.asked.deadline 0 (deadlines_in out l.deadlines))) (let e : 0 + branch ≡ branch = omega arith in e))
-    ∙ sym (dropped_more none_over id l.asked.deadline branch (timed none_over id l.asked.deadline 0 (deadlines_in out l.deadlines)) (timed none_over id l.asked.deadline n (d ∷ []))
-    (none_dropped none_over id l.asked.deadline branch n (d ∷ []) below))
-    ∙ ap (λ bs. drop_branch branch (timed none_over id l.asked.deadline 0 (deadlines_in out l.deadlines) ++ bs)) (started_timed id l.asked.deadline n d)
+passed_timed id moment branch out l goes is_out = grind (arith, nat_tests, next_in, set_length, timed_dropped, dropped_more, none_dropped, started_timed)

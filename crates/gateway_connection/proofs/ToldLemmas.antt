@@ -1,54 +1,17 @@
 -- Calls of a connection end as their contexts tell.
-use Rattle.std.proofs.Common.{◌≡◌, ℕ, zero, suc, refl, sym, ap, ◌∙◌, List, [], ◌∷◌, ◌++◌, Option, Some, None, Bool, true, false, ⊎_elim, subst, map}
-use Rattle.std.specs.Prelude.{◌==◌, All}
-use Rattle.std.specs.Option.{option_or}
-use Rattle.std.proofs.lemmas.Bool.{cases_Bool, or_parts}
-use Rattle.std.proofs.lemmas.List.Elements.{All-cons, All-head, All-nil, All-tail}
-use Rattle.call_contexts.specs.Standing.{branch_before}
-use Rattle.gateway_model.specs.declared.id.CallId.{CallId}
-use Rattle.gateway_model.specs.declared.call_event.CallEvent.{CallEvent}
-use Rattle.gateway_model.specs.declared.call_event.CallEvent.TheVariants.{HungUp as HungUpNow}
-use Rattle.gateway_model.specs.Past.{due_by, expiry, is_call, is_due, least_of, smaller}
-use Rattle.gateway_replies.specs.Contexts.{ContextsValue, Ended, LifeValue, LivesApart, TimedBranch, by_deadline, by_hang_up, ending_at, ending_life, event_of, is_life}
-use Rattle.gateway_theory.specs.declared.trigger.Trigger.{Trigger}
-use Rattle.gateway_theory.specs.declared.trigger.Trigger.TheVariants.{Reached, HungUp, Drained}
-use Rattle.gateway_theory.specs.Ends.{caused, ended_call, ended_if, ended_kept, kept_after}
-use Rattle.gateway_theory.specs.Values.{KeptValue, Live}
-use Rattle.gateway_theory.specs.Step.{deadlines_in, ended_by}
-use Rattle.gateway_theory.specs.Store.{kept_at}
+use Rattle.gateway_connection.specs.lemmas.Names.{option_or, All-head, All-cons, All-nil, All-tail, ◌≡◌, ℕ, zero, suc, refl, sym, ap, ◌∙◌, List, [], ◌∷◌, ◌++◌, Option, Some, None, Bool, true, false, ⊎_elim, subst, map, arith, All, cases_Bool, or_parts, branch_before, CallId, CallEvent, is_call, is_due, least_of, ContextsValue, LivesApart, by_deadline, ending_at, ending_life, is_life, Trigger, caused, ended_call, kept_after, KeptValue, Live, deadlines_in, kept_at, same_call, call_itself, IsNow, Over, ends_with, event_for, life_in, linked_calls, lives_in, none_over, over_by, timed, nat_tests}
 use Rattle.gateway_theory.specs.lemmas.Deadlines.{due_smaller}
-use Rattle.gateway_theory.specs.lemmas.LimitLemmas.{same_call}
-use Rattle.gateway_theory.specs.lemmas.StoreLemmas.{call_itself}
-use Rattle.gateway_connection.specs.Linked.{IsNow, Over, ends_with, event_for, life_in, linked_calls, lives_in, none_over, over_by, timed}
 use Rattle.gateway_connection.proofs.DueLemmas.{least_first, moment_event}
 use Rattle.gateway_connection.proofs.LinkedLemmas.{dead_life, live_life, live_linked}
 
--- of one call, its deadline and what ended it
-abbrev life_of : CallId → Live → Ended → List TimedBranch → LifeValue
-life_of id l ended branches = record { id = id; deadline = l.asked.deadline; request_id = l.asked.request_id; ended = ended; branches = branches }
-
 -- where no context has ended, no branch has before its call
 never_before : (over : Over) (id : CallId) (call : Option ℕ) (ds : List (Option ℕ)) → ((d : Option ℕ) → over id d ≡ None) → branch_before call (timed over id call 0 ds) ≡ None
-never_before over id call ds never = by (least_of ds) refl
-  where
-    by : (o : Option ℕ) → least_of ds ≡ o → branch_before call (timed over id call 0 ds) ≡ None
-    by None o_is = rw (least_first over id call 0 ds, o_is) refl
-    by (Some y) o_is = rw (least_first over id call 0 ds, o_is, never call, never (Some y)) refl
+never_before over id call ds never = grind (arith, nat_tests, least_first)
 
 -- the event that ends a call by this is the one that its contexts tell
 pub event_is : (trigger : Trigger) (moment : ℕ) (id : CallId) (out : List Bool) (l : Live) → IsNow trigger moment
     → ending_at moment (life_in (over_by trigger) id out l) ≡ caused trigger id l.asked (deadlines_in out l.deadlines)
-event_is (Reached now) moment id out l is =
-    subst (λ m. event_of m (by_deadline now l.asked.deadline) (branch_before l.asked.deadline (timed (over_by (Reached now)) id l.asked.deadline 0 (deadlines_in out l.deadlines)))
-    ≡ due_by now l.asked.deadline (deadlines_in out l.deadlines)) is (moment_event now id l.asked.deadline (deadlines_in out l.deadlines))
-event_is (HungUp c) moment id out l is = ⊎_elim
-    (λ (its : (c == id.conn) ≡ true). rw its refl)
-    (λ (far : (c == id.conn) ≡ false).
-    ap (λ o. event_of moment (by_hang_up (c == id.conn)) o)
-    (never_before (over_by (HungUp c)) id l.asked.deadline (deadlines_in out l.deadlines) (λ d. ap by_hang_up far))
-    ∙ rw far refl)
-    (cases_Bool (c == id.conn))
-event_is Drained moment id out l is = refl
+event_is trigger moment id out l h5 = grind (arith, nat_tests, moment_event, never_before)
 
 -- by which event the contexts of a call that can be decided end it
 pub life_over : (over : Over) (moment : ℕ) (ks : List KeptValue) (i : ℕ) (l : Live) → LivesApart (linked_calls over ks) → (kept_at i ks).call.live ≡ Some l
@@ -74,11 +37,7 @@ life_over over moment (k ∷ ks) (suc i) l apart is = by (λ tail. life_over ove
 -- a call ends by its context as it does by the trigger
 pub ends_as : (trigger : Trigger) (event : Option CallEvent) (k : KeptValue) → ((l : Live) → k.call.live ≡ Some l → event ≡ caused trigger k.id l.asked (deadlines_in k.call.out l.deadlines))
     → ends_with event k.call.out k.call.live ≡ ended_call trigger k.id k.call
-ends_as trigger event k its = by k.call.live its
-  where
-    by : (o : Option Live) → ((l : Live) → o ≡ Some l → event ≡ caused trigger k.id l.asked (deadlines_in k.call.out l.deadlines)) → ends_with event k.call.out o ≡ ended_if trigger k.id k.call.out o
-    by None its = refl
-    by (Some l) its = ap (λ q. ended_by q l k.call.out) (its l refl)
+ends_as trigger event k its = grind arith
 
 -- the event that its context tells of a call at a place
 pub event_at : (trigger : Trigger) (moment : ℕ) (c : ContextsValue) (ks : List KeptValue) (i : ℕ) → IsNow trigger moment → LivesApart c.calls → c.calls ≡ linked_calls (over_by trigger) ks
@@ -112,40 +71,14 @@ all_never over id never (d ∷ ds) = All-cons (λ d. over id d ≡ None) d ds (n
 
 -- what ends no call has ended no context of it
 not_caused : (trigger : Trigger) (id : CallId) (out : List Bool) (l : Live) → caused trigger id l.asked (deadlines_in out l.deadlines) ≡ None → life_in (over_by trigger) id out l ≡ life_in none_over id out l
-not_caused (Reached now) id out l none = ⊎_elim
-    (λ (y : is_due now (smaller l.asked.deadline (least_of (deadlines_in out l.deadlines))) ≡ true).
-    let bad : Some (expiry now l.asked.deadline (deadlines_in out l.deadlines)) ≡ None = rw y at none in cc)
-    (λ (n : is_due now (smaller l.asked.deadline (least_of (deadlines_in out l.deadlines))) ≡ false).
-    let two = or_parts (is_due now l.asked.deadline) (is_due now (least_of (deadlines_in out l.deadlines))) (sym (due_smaller now l.asked.deadline (least_of (deadlines_in out l.deadlines))) ∙ n) in
-    ap (λ e. life_of id l e (timed (over_by (Reached now)) id l.asked.deadline 0 (deadlines_in out l.deadlines))) (not_reached now l.asked.deadline two.0)
-    ∙ ap (life_of id l None) (timed_alike (over_by (Reached now)) id l.asked.deadline 0 (deadlines_in out l.deadlines) (not_reached now l.asked.deadline two.0) (none_reached now (deadlines_in out l.deadlines) two.1)))
-    (cases_Bool (is_due now (smaller l.asked.deadline (least_of (deadlines_in out l.deadlines)))))
-not_caused (HungUp c) id out l none = ⊎_elim
-    (λ (y : (c == id.conn) ≡ true). let bad : Some HungUpNow ≡ None = rw y at none in cc)
-    (λ (n : (c == id.conn) ≡ false).
-    ap (λ e. life_of id l e (timed (over_by (HungUp c)) id l.asked.deadline 0 (deadlines_in out l.deadlines))) (ap by_hang_up n)
-    ∙ ap (life_of id l None) (timed_alike (over_by (HungUp c)) id l.asked.deadline 0 (deadlines_in out l.deadlines) (ap by_hang_up n)
-    (all_never (over_by (HungUp c)) id (λ d. ap by_hang_up n) (deadlines_in out l.deadlines))))
-    (cases_Bool (c == id.conn))
-not_caused Drained id out l none = cc
+not_caused trigger id out l h4 = grind (arith, nat_tests, or_parts, due_smaller, not_reached, timed_alike, none_reached, all_never)
 
 -- of those that can be decided still, none has ended by it
 ended_one : (trigger : Trigger) (broken : Bool) (k : KeptValue)
     → lives_in (over_by trigger) (kept_after trigger broken k) ≡ lives_in none_over (kept_after trigger broken k)
-ended_one trigger true k = refl
-ended_one trigger false k = by k.call.live refl
-  where
-    by : (o : Option Live) → k.call.live ≡ o → lives_in (over_by trigger) (ended_kept trigger k) ≡ lives_in none_over (ended_kept trigger k)
-    by None o_is = rw o_is refl
-    by (Some l) o_is = on (caused trigger k.id l.asked (deadlines_in k.call.out l.deadlines)) refl
-      where
-        on : (q : Option CallEvent) → caused trigger k.id l.asked (deadlines_in k.call.out l.deadlines) ≡ q → lives_in (over_by trigger) (ended_kept trigger k) ≡ lives_in none_over (ended_kept trigger k)
-        on None q_is = rw (o_is, q_is) (ap (λ x. x ∷ []) (not_caused trigger k.id k.call.out l q_is))
-        on (Some e) q_is = rw (o_is, q_is) refl
+ended_one trigger broken k = grind (arith, nat_tests, not_caused)
 
 pub not_over : (trigger : Trigger) (breaks : CallId → Bool) (ks : List KeptValue)
     → linked_calls (over_by trigger) (map (λ k. kept_after trigger (breaks k.id) k) ks) ≡ linked_calls none_over (map (λ k. kept_after trigger (breaks k.id) k) ks)
 not_over trigger breaks [] = refl
-not_over trigger breaks (k ∷ ks) =
-    ap (λ ls. ls ++ linked_calls (over_by trigger) (map (λ (m : KeptValue). kept_after trigger (breaks m.id) m) ks)) (ended_one trigger (breaks k.id) k)
-    ∙ ap (λ ls. lives_in none_over (kept_after trigger (breaks k.id) k) ++ ls) (not_over trigger breaks ks)
+not_over trigger breaks (k ∷ ks) = grind (arith, nat_tests, not_over trigger breaks ks, ended_one)

@@ -1,3 +1,4 @@
+pub mod Names
 pub mod OwnContexts
 pub mod OwnTies
 pub mod OwnOver

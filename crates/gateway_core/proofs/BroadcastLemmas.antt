@@ -1,52 +1,20 @@
 -- A broadcast: each connection ends its calls at most once, one after the other, until no context is over.
-use Rattle.std.proofs.Common.{◌≡◌, ℕ, ◌+◌, ◌<◌, ◌≤◌, refl, sym, ap, ◌∙◌, List, [], ◌∷◌, ◌++◌, length, Option, Some, None, Bool, true, false, ⊎_elim, inl, inr, subst, arith}
-use Rattle.std.specs.BTreeMap.{is_at}
-use Rattle.std.specs.List.{list_any}
-use Rattle.std.specs.Map.{keys_of, set_value}
-use Rattle.std.specs.Ordering.{nat_cmp}
-use Rattle.std.specs.Prelude.{◌⊎◌, ◌==◌, ◌||◌, ◌^◌, filter}
-use Rattle.std.proofs.lemmas.Bool.{cases_Bool, eqb-true}
+use Rattle.gateway_core.proofs.Names.{◌≡◌, ℕ, ◌+◌, ◌<◌, ◌≤◌, refl, sym, ap, ◌∙◌, List, [], ◌∷◌, ◌++◌, length, Option, Some, None, Bool, true, false, ⊎_elim, inl, inr, subst, arith, is_at, list_any, keys_of, set_value, nat_cmp, ◌⊎◌, ◌==◌, ◌||◌, ◌^◌, filter, cases_Bool, eqb-true, same_Some, CallsEnd, ended as all_ended, broke as it_broke, HeldConnection, MayEnd, CallId, waiting, ContextsValue, LifeValue, contexts_value, has_ended, is_over, others, told, HookedContexts, KeepsHooks, LeavesRest, MayStep, Over, none_over, over_by, IsTied, LeavesContexts, LeavesOthers, own_calls, own_contexts, Shared, has_ended_own, none_over_own, held_same, over_ends, ended_is_over, none_is_over, none_left, none_over_tied, tied_left, AllEnd, AreFit, AreNumbered, Conns, IsToldOnly, OneBreaks, TiedAt, held_at, waiting_all, waiting_for, nat_tests}
+use Rattle.gateway_theory.specs.lemmas.Cases.{sym_eqb}
 use Rattle.std.proofs.lemmas.Map.{keys-set_value}
-use Rattle.std.proofs.lemmas.Option.{same_Some}
-use Rattle.gateway_theory.specs.Held.{CallsEnd, ended as all_ended, broke as it_broke}
-use Rattle.gateway_theory.specs.Values.{HeldConnection}
-use Rattle.gateway_theory.specs.Steps.{MayEnd}
-use Rattle.gateway_model.specs.declared.id.CallId.{CallId}
-use Rattle.gateway_theory.specs.Store.{waiting}
 use Rattle.gateway_theory.specs.declared.trigger.Trigger.{Trigger}
 use Rattle.gateway_theory.specs.declared.trigger.Trigger.TheVariants.{Reached, HungUp, Drained}
-use Rattle.gateway_theory.specs.lemmas.Cases.{sym_eqb}
-use Rattle.gateway_replies.specs.Contexts.{ContextsValue, LifeValue, contexts_value, has_ended, is_over, others, told}
-use Rattle.gateway_replies.specs.Hooks.{HookedContexts, KeepsHooks}
 use Rattle.gateway_connection.specs.Ends.{EndsBy}
-use Rattle.gateway_connection.specs.Lent.{LeavesRest, MayStep}
-use Rattle.gateway_connection.specs.Linked.{Over, linked_calls, none_over, over_by}
-use Rattle.gateway_connection.specs.OwnContexts.{IsTied, LeavesContexts, LeavesOthers, own_calls, own_contexts}
-use Rattle.gateway_connection.specs.declared.shared.Shared.{Shared}
-use Rattle.gateway_connection.specs.lemmas.OwnContexts.{has_ended_own, none_over_own}
-use Rattle.gateway_connection.specs.lemmas.OwnOver.{held_same, over_ends}
-use Rattle.gateway_connection.specs.lemmas.OwnTies.{ended_is_over, none_is_over, none_left, none_over_tied, tied_left}
 use Rattle.gateway_connection.specs.lemmas.OwnTold.{drained_tied, none_told, reached_tied}
 use Rattle.gateway_core.specs.Telling.{IsForAll}
-use Rattle.gateway_core.specs.Whole.{AllEnd, AreFit, AreNumbered, Conns, IsToldOnly, OneBreaks, TiedAt, held_at, waiting_all, waiting_for}
 use Rattle.gateway_core.proofs.MapLemmas.{set_here, set_other, sum_holds, sum_set}
 
 -- ---- how many calls are over
 
-overs : List LifeValue → ℕ
-overs calls = length (filter is_over calls)
-
 -- of all calls that are over some are of the connection, and the others are not
 overs_parts : (c : ℕ) (ls : List LifeValue) → length (filter is_over ls) ≡ length (filter is_over (own_calls c ls)) + length (filter is_over (others c ls))
 overs_parts c [] = refl
-overs_parts c (l ∷ ls) = by (l.id.conn == c) refl (is_over l) refl (overs_parts c ls)
-  where
-    by : (a : Bool) → (l.id.conn == c) ≡ a → (b : Bool) → is_over l ≡ b → length (filter is_over ls) ≡ length (filter is_over (own_calls c ls)) + length (filter is_over (others c ls))
-        → length (filter is_over (l ∷ ls)) ≡ length (filter is_over (own_calls c (l ∷ ls))) + length (filter is_over (others c (l ∷ ls)))
-    by true its true y rest = rw (its, y) (omega (arith, rest))
-    by true its false n rest = rw (its, n) (omega (arith, rest))
-    by false far true y rest = rw (far, y) (omega (arith, rest))
-    by false far false n rest = rw (far, n) (omega (arith, rest))
+overs_parts c (l ∷ ls) = grind (arith, overs_parts c ls)
 
 some_over : (ls : List LifeValue) → list_any is_over ls ≡ true → 0 < length (filter is_over ls)
 some_over [] is = cc
@@ -162,12 +130,7 @@ module _ {H : Type 0} where
 
   -- none is over of one that has done it, nor under a number where none is kept
   done_none : (id : CallId) (c : ℕ) (k : HeldConnection) (x : HookedContexts H) → c ≡ id.conn → k.number ≡ c → IsTied none_over k x → list_any (has_ended id) x.standing.calls ≡ true → ⊥
-  done_none id c k x c_is number tied over =
-      let own : list_any (has_ended id) (own_contexts k.number x.standing).calls ≡ true =
-      ap (λ n. list_any (has_ended id) (own_contexts n x.standing).calls) (number ∙ c_is) ∙ has_ended_own id x.standing ∙ over in
-      let some : list_any is_over (linked_calls none_over k.calls) ≡ true =
-      ap (λ (y : ContextsValue). list_any is_over y.calls) (sym tied.are) ∙ ended_is_over id (own_contexts k.number x.standing).calls own in
-      let clash : true ≡ false = sym some ∙ none_is_over k.calls in cc
+  done_none id c k x c_is number tied over = grind (arith, nat_tests, has_ended_own, ended_is_over, none_is_over)
 
   absent_none : (id : CallId) (x : HookedContexts H) → own_contexts id.conn x.standing ≡ contexts_value x.standing.drained [] [] → list_any (has_ended id) x.standing.calls ≡ true → ⊥
   absent_none id x none over =
@@ -176,26 +139,14 @@ module _ {H : Type 0} where
   module _ {trigger : Trigger} {s t : Shared H} {old new : Conns} {one_broke : Bool} (h : AreHalfway trigger s t old new one_broke) (id : CallId) (over : list_any (has_ended id) t.contexts.standing.calls ≡ true) where
     -- it is there
     pub there_is : held_at id.conn new ≡ None → ⊥
-    there_is none = by (h.each id.conn)
-      where
-        by : Halfway trigger id.conn (held_at id.conn old) (held_at id.conn new) t.contexts → ⊥
-        by (inl w) = absent_none id t.contexts (subst (λ o. TiedAt (over_by trigger) id.conn o t.contexts) none w.1) over
-        by (inr d) = let clash : None ≡ Some d.after = sym none ∙ d.is in cc
+    there_is none = grind (arith, nat_tests, absent_none)
 
     -- and waits
     pub still_waits : (k : HeldConnection) → held_at id.conn new ≡ Some k → (held_at id.conn old ≡ Some k) × IsTied (over_by trigger) k t.contexts
-    still_waits k is = by (h.each id.conn)
-      where
-        by : Halfway trigger id.conn (held_at id.conn old) (held_at id.conn new) t.contexts → (held_at id.conn old ≡ Some k) × IsTied (over_by trigger) k t.contexts
-        by (inl w) = (sym w.0 ∙ is, subst (λ o. TiedAt (over_by trigger) id.conn o t.contexts) is w.1)
-        by (inr d) = absurd (done_none id id.conn d.after t.contexts refl (h.numbered id.conn d.after d.is) d.tied over)
+    still_waits k is = grind (arith, nat_tests, done_none)
 
     pub may_step : (k : HeldConnection) → held_at id.conn new ≡ Some k → MayStep (over_by trigger) k t
-    may_step k is = record {
-      tied = (still_waits k is).1;
-      waits = subst (λ n. waiting k.calls ≤ n) (sym h.waits) (sum_holds waiting_for id.conn k new is);
-      early = h.early;
-    }
+    may_step k is = grind (arith, nat_tests, still_waits, sum_holds)
 
   left_at : (over : Over) (c d : ℕ) (o : Option HeldConnection) (x y : HookedContexts H) → ((k : HeldConnection) → o ≡ Some k → k.number ≡ d) → (d == c) ≡ false → LeavesOthers c x y → TiedAt over d o x → TiedAt over d o y
   left_at over c d None x y numbered apart leaves tied = none_left c d x y apart leaves tied
@@ -203,15 +154,7 @@ module _ {H : Type 0} where
 
   left_done : (trigger : Trigger) (c d : ℕ) (o p : Option HeldConnection) (x y : HookedContexts H) → ((k : HeldConnection) → p ≡ Some k → k.number ≡ d) → (d == c) ≡ false → LeavesOthers c x y
       → Halfway trigger d o p x → Halfway trigger d o p y
-  left_done trigger c d o p x y numbered apart leaves (inl w) = inl (w.0, left_at (over_by trigger) c d p x y numbered apart leaves w.1)
-  left_done trigger c d o p x y numbered apart leaves (inr e) = inr (record {
-    before = e.before;
-    after = e.after;
-    was = e.was;
-    is = e.is;
-    ends = e.ends;
-    tied = tied_left none_over c e.after x y (ap (λ n. n == c) (numbered e.after e.is) ∙ apart) leaves e.tied;
-  })
+  left_done trigger c d o p x y h7 h8 h9 h10 = grind (arith, nat_tests, left_at, tied_left)
 
   -- it ends its calls
   module _ {trigger : Trigger} {s t u : Shared H} {old new after : Conns} {before : Bool} (h : AreHalfway trigger s t old new before) (id : CallId) (over : list_any (has_ended id) t.contexts.standing.calls ≡ true)
@@ -244,12 +187,7 @@ module _ {H : Type 0} where
         (cases_Bool (id.conn == d))
 
     numbered_then : AreNumbered after
-    numbered_then d m m_is = ⊎_elim
-        (λ (same : (id.conn == d) ≡ true).
-        ap (λ (x : HeldConnection). x.number) (sym (same_Some l m (sym here ∙ ap (λ i. held_at i after) (eqb-true id.conn d same) ∙ m_is)))
-        ∙ same_number trigger b k l ends ∙ number ∙ eqb-true id.conn d same)
-        (λ (off : (id.conn == d) ≡ false). h.numbered d m (sym (elsewhere d off) ∙ m_is))
-        (cases_Bool (id.conn == d))
+    numbered_then d m m_is = grind (arith, nat_tests, same_Some, here, eqb-true, same_number, number, elsewhere)
 
     pub goes_on : AreHalfway trigger s u old after (b || before)
     goes_on = record {
@@ -273,10 +211,7 @@ module _ {H : Type 0} where
         append_none (x ∷ xs) = ap (λ ys. x ∷ ys) (append_none xs)
 
     pub fewer : length (filter is_over u.contexts.standing.calls) < length (filter is_over t.contexts.standing.calls)
-    fewer = fewer_over id.conn t.contexts.standing u.contexts.standing leaves.contexts
-        (ended_is_over id (own_contexts id.conn t.contexts.standing).calls (has_ended_own id t.contexts.standing ∙ over))
-        (ap (λ n. list_any is_over (own_contexts n u.contexts.standing).calls) (sym (same_number trigger b k l ends ∙ number))
-        ∙ ap (λ (y : ContextsValue). list_any is_over y.calls) tied.are ∙ none_is_over l.calls)
+    fewer = grind (arith, nat_tests, fewer_over, leaves, ended_is_over, has_ended_own, same_number, number, none_is_over)
 
   -- the contexts stay as the next call is looked for
   pub same_shared : (t : Shared H) (x : HookedContexts H) → x ≡ t.contexts → record t { contexts = x } ≡ t
@@ -305,13 +240,7 @@ module _ {H : Type 0} where
 
   module _ {trigger : Trigger} {s t : Shared H} {old new : Conns} {one_broke : Bool} (h : AreHalfway trigger s t old new one_broke) (none : list_any is_over t.contexts.standing.calls ≡ false) where
     waited : (c : ℕ) (o p : Option HeldConnection) → p ≡ o → TiedAt (over_by trigger) c p t.contexts → MayEnd trigger o p × TiedAt none_over c p t.contexts
-    waited c None None same tied = (refl, tied)
-    waited c None (Some k) same tied = absurd (let clash : Some k ≡ None = same in cc)
-    waited c (Some k) None same tied = absurd (let clash : None ≡ Some k = same in cc)
-    waited c (Some k) (Some l) same tied =
-        let free : list_any is_over (linked_calls (over_by trigger) l.calls) ≡ false =
-        ap (λ (y : ContextsValue). list_any is_over y.calls) (sym tied.are) ∙ none_over_own l.number t.contexts.standing none in
-        ((l, refl, subst (λ m. CallsEnd trigger m l) (same_Some l k same) (all_ended (held_same trigger l (sym (over_ends trigger l.calls) ∙ free)))), none_over_tied (over_by trigger) l t.contexts none tied)
+    waited c o p h3 h4 = grind (arith, nat_tests, none_over_own, same_Some, held_same, over_ends, none_over_tied)
 
     both : (c : ℕ) → MayEnd trigger (held_at c old) (held_at c new) × TiedAt none_over c (held_at c new) t.contexts
     both c = by (h.each c)

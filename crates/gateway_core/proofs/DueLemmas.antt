@@ -1,28 +1,12 @@
 -- The least deadline of all contexts is that of the connections' calls.
-use Rattle.std.proofs.Common.{◌≡◌, ℕ, suc, refl, sym, ap, ◌∙◌, List, [], ◌∷◌, Option, Some, None, Bool, true, false, ⊎_elim, map, subst, arith}
-use Rattle.std.specs.BTreeMap.{is_at}
-use Rattle.std.specs.List.{list_any}
-use Rattle.std.specs.List.Sorted.{IsStrictlySortedBy}
-use Rattle.std.specs.Map.{keys_of, values_of}
-use Rattle.std.specs.Ordering.{nat_cmp}
-use Rattle.std.specs.Prelude.{◌==◌, ◌&&◌, ◌||◌, if◌then◌else◌, is_none, nat_le, slice_get}
-use Rattle.std.proofs.lemmas.Bool.{cases_Bool, eq-eqb}
+use Rattle.gateway_core.proofs.Names.{◌≡◌, ℕ, suc, refl, sym, ap, ◌∙◌, List, [], ◌∷◌, Option, Some, None, Bool, true, false, ⊎_elim, map, subst, arith, list_any, IsStrictlySortedBy, keys_of, values_of, nat_cmp, ◌==◌, ◌&&◌, if◌then◌else◌, is_none, nat_le, slice_get, cases_Bool, eq-eqb, HeldConnection, is_due, least_of, ContextsValue, Ended, LifeValue, TimedBranch, has_due, HookedContexts, linked_calls, none_over, own_calls, own_none, due_ends, AreNumbered, AreTied, Conns, TiedAt, held_at, nat_tests}
 use Rattle.std.proofs.lemmas.Cmp.{eq_by_cmp_equiv, nat_cmp_total}
 use Rattle.std.proofs.lemmas.Map.Entries.{lookup_from_place}
 use Rattle.std.proofs.lemmas.Map.Keys.{IsDistinct-from_sorted}
-use Rattle.gateway_theory.specs.Values.{HeldConnection}
-use Rattle.gateway_model.specs.Past.{is_due, least_of}
-use Rattle.gateway_replies.specs.Contexts.{ContextsValue, Ended, LifeValue, TimedBranch, has_due}
-use Rattle.gateway_replies.specs.Hooks.{HookedContexts}
 use Rattle.gateway_replies.specs.Least.{branch_deadline, first_deadline, life_deadline}
 use Rattle.gateway_theory.specs.Least.{ends_any, least_deadline}
 use Rattle.gateway_theory.specs.lemmas.Deadlines.{due_smaller}
 use Rattle.gateway_theory.specs.lemmas.LeastLemmas.{ends_due}
-use Rattle.gateway_connection.specs.Linked.{linked_calls, none_over}
-use Rattle.gateway_connection.specs.OwnContexts.{own_calls}
-use Rattle.gateway_connection.specs.lemmas.OwnContexts.{own_none}
-use Rattle.gateway_connection.specs.lemmas.OwnOver.{due_ends}
-use Rattle.gateway_core.specs.Whole.{AreNumbered, AreTied, Conns, TiedAt, held_at}
 
 -- ---- contexts
 
@@ -32,23 +16,14 @@ one_due m (Some e) d = refl
 
 branches_due : (m : ℕ) (bs : List TimedBranch) → is_due m (least_of (map branch_deadline bs)) ≡ list_any (λ (b : TimedBranch). is_none b.ended && nat_le b.deadline m) bs
 branches_due m [] = refl
-branches_due m (b ∷ bs) =
-    due_smaller m (branch_deadline b) (least_of (map branch_deadline bs))
-    ∙ ap (λ x. x || is_due m (least_of (map branch_deadline bs))) (one_due m b.ended (Some b.deadline))
-    ∙ ap (λ y. (is_none b.ended && nat_le b.deadline m) || y) (branches_due m bs)
+branches_due m (b ∷ bs) = grind (arith, branches_due m bs)
 
 life_due : (m : ℕ) (l : LifeValue) → is_due m (life_deadline l) ≡ has_due m l
-life_due m l =
-    due_smaller m (if is_none l.ended then l.deadline else None) (least_of (map branch_deadline l.branches))
-    ∙ ap (λ x. x || is_due m (least_of (map branch_deadline l.branches))) (one_due m l.ended l.deadline)
-    ∙ ap (λ y. (is_none l.ended && is_due m l.deadline) || y) (branches_due m l.branches)
+life_due m l = grind (arith, nat_tests, due_smaller, one_due, branches_due)
 
 lives_due : (m : ℕ) (ls : List LifeValue) → is_due m (first_deadline ls) ≡ list_any (has_due m) ls
 lives_due m [] = refl
-lives_due m (l ∷ ls) =
-    due_smaller m (life_deadline l) (first_deadline ls)
-    ∙ ap (λ x. x || is_due m (first_deadline ls)) (life_due m l)
-    ∙ ap (λ y. has_due m l || y) (lives_due m ls)
+lives_due m (l ∷ ls) = grind (arith, nat_tests, lives_due m ls, due_smaller, life_due)
 
 -- two that each moment has reached alike are the same
 same_due : (a b : Option ℕ) → ((m : ℕ) → is_due m a ≡ is_due m b) → a ≡ b
@@ -64,10 +39,7 @@ same_due (Some a) (Some b) alike =
 
 ahead_due : (m : ℕ) (ks : List HeldConnection) → list_any (λ (k : HeldConnection). ends_any m k.calls) ks ≡ is_due m (least_of (map (λ (k : HeldConnection). least_deadline k.calls) ks))
 ahead_due m [] = refl
-ahead_due m (k ∷ ks) =
-    ap (λ b. b || list_any (λ (k : HeldConnection). ends_any m k.calls) ks) (ends_due m k.calls)
-    ∙ ap (λ b. is_due m (least_deadline k.calls) || b) (ahead_due m ks)
-    ∙ sym (due_smaller m (least_deadline k.calls) (least_of (map (λ (k : HeldConnection). least_deadline k.calls) ks)))
+ahead_due m (k ∷ ks) = grind (arith, nat_tests, ahead_due m ks, ends_due, due_smaller)
 
 -- a context of which something holds is one of its connection's
 some_own : (p : LifeValue → Bool) (ls : List LifeValue) → list_any p ls ≡ true → (c : ℕ) × (list_any p (own_calls c ls) ≡ true)
@@ -87,19 +59,7 @@ some_own p (l ∷ ls) is = by (p l) refl (λ rest. some_own p ls rest)
 
 found_any : (q : HeldConnection → Bool) (c : ℕ) (k : HeldConnection) (es : Conns) → held_at c es ≡ Some k → q k ≡ true → list_any q (values_of es) ≡ true
 found_any q c k [] is y = let clash : None ≡ Some k = is in cc
-found_any q c k (e ∷ es) is y = ⊎_elim
-    (λ (here : is_at (nat_cmp c) e.0 ≡ true).
-    let same : e.1 ≡ k = some_is e.1 k (rw here at is) in
-    ap (λ b. b || list_any q (values_of es)) (ap q same ∙ y))
-    (λ (there : is_at (nat_cmp c) e.0 ≡ false). ap (λ b. q e.1 || b) (found_any q c k es (rw there at is) y) ∙ or_true (q e.1))
-    (cases_Bool (is_at (nat_cmp c) e.0))
-  where
-    some_is : (x z : HeldConnection) → Some x ≡ Some z → x ≡ z
-    some_is x z e = cc
-
-    or_true : (b : Bool) → (b || true) ≡ true
-    or_true true = refl
-    or_true false = refl
+found_any q c k (e ∷ es) is y = grind (arith, found_any q c k es)
 
 any_place : (q : HeldConnection → Bool) (es : Conns) → list_any q (values_of es) ≡ true → (i : ℕ) × (c : ℕ) × (k : HeldConnection) × (slice_get es i ≡ Some (c, k)) × (q k ≡ true)
 any_place q [] is = cc
@@ -116,9 +76,7 @@ any_found q es sorted is =
     (p.1, p.2, lookup_from_place (eq_by_cmp_equiv nat_cmp_total) es p.0 p.1 p.2 (IsDistinct-from_sorted nat_cmp (keys_of es) sorted) p.3, p.4)
 
 both_ways : (a b : Bool) → (a ≡ true → b ≡ true) → (b ≡ true → a ≡ true) → a ≡ b
-both_ways true b one other = sym (one refl)
-both_ways false true one other = other refl
-both_ways false false one other = refl
+both_ways a b h2 h3 = grind (arith, nat_tests)
 
 module _ {H : Type 0} (x : HookedContexts H) (es : Conns) (sorted : IsStrictlySortedBy nat_cmp (keys_of es)) (numbered : AreNumbered es) (tied : AreTied none_over es x) where
   any_due : (m : ℕ) → list_any (has_due m) x.standing.calls ≡ list_any (λ (k : HeldConnection). ends_any m k.calls) (values_of es)

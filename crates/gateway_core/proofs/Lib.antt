@@ -1,3 +1,5 @@
+pub mod Names
+pub mod ClauseLemmas
 mod MapLemmas
 mod FitLemmas
 mod BroadcastLemmas

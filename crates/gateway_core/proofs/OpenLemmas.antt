@@ -1,36 +1,13 @@
 -- A connection opens: its contexts, its hooks, and what is kept of the gateway then.
-use Rattle.std.proofs.Common.{◌≡◌, ℕ, ◌+◌, ◌<◌, refl, sym, ap, ◌∙◌, List, [], ◌∷◌, ◌++◌, length, Option, Some, None, true, false, ⊎_elim, cond, subst, arith}
-use Rattle.std.specs.BTreeMap.{insert_entry, is_at}
-use Rattle.std.specs.List.Sorted.{IsStrictlySortedBy}
-use Rattle.std.specs.Map.{keys_of}
-use Rattle.std.specs.Ordering.{nat_cmp}
-use Rattle.std.specs.Prelude.{◌==◌}
-use Rattle.std.proofs.lemmas.Bool.{cases_Bool, eq-eqb}
-use Rattle.std.proofs.lemmas.Option.{same_Some}
-use Rattle.gateway_theory.specs.Values.{gateway_value, HeldConnection}
-use Rattle.gateway_theory.specs.Held.{new_held}
-use Rattle.gateway_theory.specs.Serving.{IsServing}
-use Rattle.gateway_theory.specs.Steps.{Moves, Opens, open_in}
+use Rattle.gateway_core.proofs.Names.{◌≡◌, ℕ, ◌+◌, ◌<◌, refl, sym, ap, ◌∙◌, List, [], ◌∷◌, ◌++◌, length, Option, Some, None, false, cond, subst, arith, insert_entry, is_at, IsStrictlySortedBy, keys_of, nat_cmp, eq-eqb, same_Some, HeldConnection, new_held, IsServing, Moves, Opens, open_in, Tally, ContextsValue, by_drain, contexts_value, ends_of, is_peer, opened as opens, BringsHooks, HookedContexts, Stocks, stock_in, none_over, IsTied, linked_conn, own_contexts, Shared, ends_own, is_peer_own, opened_own, others_opened, ends_linked, relinked, Conns, IsWhole, TiedAt, gateway_of, held_at, waiting_for, nat_tests}
 use Rattle.gateway_model.specs.Events.{most_open}
-use Rattle.gateway_theory.specs.declared.tally.Tally.{Tally}
-use Rattle.gateway_replies.specs.Contexts.{ContextsValue, by_drain, contexts_value, ends_of, is_peer, opened as opens}
-use Rattle.gateway_replies.specs.Hooks.{BringsHooks, HookedContexts, Stocks, stock_in}
-use Rattle.gateway_connection.specs.Linked.{none_over}
-use Rattle.gateway_connection.specs.OwnContexts.{IsTied, linked_conn, own_contexts}
-use Rattle.gateway_connection.specs.declared.shared.Shared.{Shared}
-use Rattle.gateway_connection.specs.lemmas.OwnContexts.{ends_own, is_peer_own, opened_own, others_opened}
-use Rattle.gateway_connection.specs.lemmas.OwnTies.{ends_linked, relinked}
-use Rattle.gateway_core.specs.Whole.{Conns, IsWhole, TiedAt, gateway_of, held_at, waiting_for}
 use Rattle.gateway_core.proofs.MapLemmas.{moved_in, sum_inserted}
 use Rattle.gateway_core.proofs.StepLemmas.{whole_moved}
 
 module _ {H : Type 0} where
   stock_behind : (n : ℕ) (stock : List H) (ss : Stocks H) → stock_in n ss ≡ None → stock_in n (ss ++ (n, stock) ∷ []) ≡ Some stock
   stock_behind n stock [] none = rw (eq-eqb n n refl) refl
-  stock_behind n stock (s ∷ ss) none = ⊎_elim
-      (λ (y : (s.0 == n) ≡ true). absurd (let clash : Some s.1 ≡ None = rw y at none in cc))
-      (λ (f : (s.0 == n) ≡ false). rw f (stock_behind n stock ss (rw f at none)))
-      (cases_Bool (s.0 == n))
+  stock_behind n stock (s ∷ ss) none = grind (arith, stock_behind n stock ss)
 
   -- it is tied to its context, and has a hook for each request
   pub opened_tied : (n : ℕ) (stock : List H) (v w : HookedContexts H) → own_contexts n v.standing ≡ contexts_value v.standing.drained [] [] → w.standing ≡ opens n v.standing → BringsHooks n stock v w
@@ -66,21 +43,13 @@ module _ {H : Type 0} where
 
     module _ (fs : Conns) (conn : HeldConnection) (new : conn ≡ new_held opened) (put : fs ≡ insert_entry nat_cmp es opened conn)
         (updates : (q : ℕ) → held_at q fs ≡ cond (is_at (nat_cmp opened) q) (Some conn) (held_at q es)) (sorted : IsStrictlySortedBy nat_cmp (keys_of fs)) (x : HookedContexts H) where
-      pub t : Shared H
-      t = record s { contexts = x }
-
       moves : Moves opened (Some (new_held opened)) (gateway_of s es opened tally) (gateway_of (record s { contexts = x }) fs (opened + 1) tally)
       moves = moved_in opened (new_held opened) (gateway_of s es opened tally) (gateway_of (record s { contexts = x }) fs (opened + 1) tally) (unborn s es opened tally w.serving)
           (put ∙ ap (insert_entry nat_cmp es opened) new) (λ q. updates q ∙ ap (λ k. cond (is_at (nat_cmp opened) q) (Some k) (held_at q es)) new) w.serving.sorted sorted
 
       pub opens_step : open_now < most_open → x.standing ≡ opens opened s.contexts.standing
           → Opens (gateway_of s es opened tally) (gateway_of (record s { contexts = x }) fs (opened + 1) tally) opened
-      opens_step few is = record {
-        number_is = refl;
-        few = subst (λ n. n < most_open) w.open_is few;
-        moves = moves;
-        rest = ap (λ (y : ContextsValue). gateway_value s.plans s.moment y.drained fs s.jobs.jobs (opened + 1) s.begun tally) is;
-      }
+      opens_step few is = grind (arith, nat_tests, moves)
 
       pub opens_whole : (stock : List H) → x.standing ≡ opens opened s.contexts.standing → BringsHooks opened stock s.contexts x
           → IsServing (gateway_of (record s { contexts = x }) fs (opened + 1) tally) → IsWhole (record s { contexts = x }) fs (opened + 1) (open_now + 1) tally

@@ -1,35 +1,14 @@
 -- What a step of one connection makes of the gateway, and what is kept of it then.
-use Rattle.std.proofs.Common.{◌≡◌, ℕ, ◌+◌, ◌≤◌, refl, sym, ap, ◌∙◌, List, [], ◌∷◌, ◌++◌, Option, Some, None, Bool, true, false, subst, arith}
-use Rattle.std.specs.BTreeMap.{is_at}
-use Rattle.std.specs.Map.{set_value}
-use Rattle.std.specs.Ordering.{nat_cmp}
-use Rattle.std.specs.Prelude.{⊤, ◌&&◌, ◌||◌, ◌^◌, if◌then◌else◌, not, Result}
+use Rattle.gateway_core.proofs.Names.{◌≡◌, ℕ, ◌+◌, ◌≤◌, refl, sym, ap, ◌∙◌, List, [], ◌∷◌, ◌++◌, Option, Some, None, Bool, true, false, subst, arith, Result, is_at, set_value, nat_cmp, ⊤, ◌^◌, if◌then◌else◌, one_if_open, GatewayValue, gateway_value, HeldConnection, HangsUp, Holds, TakesReply, TakesResult, TakesStarved, closed_held, is_gone, left_of, IsServing, there, closes, Closes, Feeds, HangsUpAt, Moves, Results, Starves, TakesReplyAt, Tallies, open_in, call_id, CallId, ReplyValue, waiting, Tally, HookedContexts, LeavesRest, MayStep, none_over, IsTied, LeavesOthers, Shared, AreNumbered, Conns, IsWhole, IsWithout, TiedAt, gateway_of, held_at, waiting_all, waiting_for, nat_tests}
 use Rattle.std.proofs.lemmas.Map.Steps.{set_value_same}
 use Rattle.connect_codec.specs.declared.answer.Outcome.{Outcome}
-use Rattle.gateway_theory.specs.Gateway.{one_if_open, open_count}
-use Rattle.gateway_theory.specs.Values.{GatewayValue, gateway_value, HeldConnection}
-use Rattle.gateway_theory.specs.Held.{HangsUp, Holds, TakesReply, TakesResult, TakesStarved, closed_held, has_out_in, is_gone, left_of}
-use Rattle.gateway_theory.specs.Serving.{IsServing}
-use Rattle.gateway_theory.specs.Steps.{there, closes, Closes, Feeds, HangsUpAt, Moves, Results, Starves, TakesReplyAt, Tallies, open_in}
 use Rattle.gateway_model.specs.Job.{JobValue}
-use Rattle.gateway_model.specs.Past.{call_id}
-use Rattle.gateway_model.specs.declared.id.CallId.{CallId}
-use Rattle.gateway_theory.specs.Replies.{ReplyValue}
-use Rattle.gateway_theory.specs.Store.{waiting}
 use Rattle.gateway_theory.specs.declared.fault.StepFault.{StepFault}
 use Rattle.gateway_theory.specs.declared.fault.Took.{Took}
-use Rattle.gateway_theory.specs.declared.tally.Tally.{Tally}
-use Rattle.gateway_replies.specs.Contexts.{contexts_value}
-use Rattle.gateway_replies.specs.Hooks.{HookedContexts}
-use Rattle.gateway_connection.specs.Comes as comes
 use Rattle.gateway_connection.specs.Ends.{TakesFrom}
-use Rattle.gateway_connection.specs.Lent.{LeavesRest, MayStep}
-use Rattle.gateway_connection.specs.Linked.{none_over}
-use Rattle.gateway_connection.specs.OwnContexts.{IsTied, LeavesOthers, own_contexts}
-use Rattle.gateway_connection.specs.declared.shared.Shared.{Shared}
-use Rattle.gateway_core.specs.Whole.{AreFit, AreNumbered, Conns, IsWhole, IsWithout, TiedAt, gateway_of, held_at, waiting_all, waiting_for}
 use Rattle.gateway_core.proofs.FitLemmas.{dead_waits, gone_tied, tied_at, tied_moved}
 use Rattle.gateway_core.proofs.MapLemmas.{moved_out, moved_set, sum_holds, sum_removed, sum_set}
+use Rattle.gateway_connection.specs.Comes as comes
 
 append_none : {A : Type 0} (xs : List A) → xs ++ [] ≡ xs
 append_none [] = refl
@@ -42,11 +21,7 @@ left_there : (l : HeldConnection) → is_gone l ≡ false → left_of l ≡ Some
 left_there l stays = ap (λ b. if b then None else Some l) stays
 
 gone_closed : (l : HeldConnection) → is_gone l ≡ true → l.closed ≡ true
-gone_closed l gone = by l.closed gone
-  where
-    by : (b : Bool) → (b && not (has_out_in l)) ≡ true → b ≡ true
-    by true e = refl
-    by false e = e
+gone_closed l gone = grind arith
 
 open_left : (l : HeldConnection) (b : Bool) → is_gone l ≡ b → open_in (left_of l) ≡ one_if_open l
 open_left l true gone = ap open_in (left_none l gone) ∙ sym (ap (λ b. if b then 0 else 1) (gone_closed l gone))
@@ -54,11 +29,7 @@ open_left l false stays = ap open_in (left_there l stays)
 
 waits_left : (n : ℕ) (k l : HeldConnection) (es fs gs : Conns) → Some k ≡ held_at n es → fs ≡ set_value (is_at (nat_cmp n)) es l → (b : Bool) → is_gone l ≡ b → IsWithout b n fs gs → Holds l
     → waiting_all gs + waiting_for k ≡ waiting_all es + waiting_for l
-waits_left n k l es fs gs found set true gone (removed, updates, sorted) holds =
-    let sums = sum_removed waiting_for n k l es fs gs (sym found) set removed in
-    let none_waits = dead_waits l.calls (holds.dead (ap (λ b. b || l.broken) (gone_closed l gone))) in
-    omega (arith, sums, none_waits)
-waits_left n k l es fs gs found set false stays same holds = sum_set waiting_for n k l es gs (sym found) (same ∙ set)
+waits_left n k l es fs gs h6 h7 b h9 h10 h11 = grind (arith, nat_tests, sum_removed, dead_waits, gone_closed, sum_set)
 
 -- what is said of a number and a gateway is said of the same ones
 pub at_both : (P : ℕ → GatewayValue → Type 0) {n m : ℕ} {v u : GatewayValue} → n ≡ m → v ≡ u → P n v → P m u
@@ -76,11 +47,7 @@ module _ {H : Type 0} where
 
   module _ {s : Shared H} {es : Conns} {opened open_now : ℕ} {tally : Tally} (w : IsWhole s es opened open_now tally) (n : ℕ) (k : HeldConnection) (found : Some k ≡ held_at n es) where
     pub may_step : MayStep none_over k s
-    may_step = record {
-      tied = tied_at none_over n k (held_at n es) s.contexts (sym found) (w.fit.tied n);
-      waits = subst (λ m. waiting k.calls ≤ m) (sym w.fit.waits) (sum_holds waiting_for n k es (sym found));
-      early = w.fit.early;
-    }
+    may_step = grind (arith, nat_tests, tied_at, sum_holds)
 
     pub its_number : k.number ≡ n
     its_number = (w.serving.each n k (sym found)).number_is
@@ -94,26 +61,12 @@ module _ {H : Type 0} where
   pub rest_is : (s t : Shared H) (fs : Conns) (jobs : List JobValue) (opened : ℕ) (tally : Tally) → t.plans ≡ s.plans → t.moment ≡ s.moment
       → t.contexts.standing.drained ≡ s.contexts.standing.drained → t.jobs.jobs ≡ jobs
       → gateway_of t fs opened tally ≡ gateway_value s.plans s.moment s.contexts.standing.drained fs jobs opened t.begun tally
-  rest_is s t fs jobs opened tally plans moment drained jobs_are =
-      ap (λ p. gateway_value p t.moment t.contexts.standing.drained fs t.jobs.jobs opened t.begun tally) plans
-      ∙ ap (λ m. gateway_value s.plans m t.contexts.standing.drained fs t.jobs.jobs opened t.begun tally) moment
-      ∙ ap (λ d. gateway_value s.plans s.moment d fs t.jobs.jobs opened t.begun tally) drained
-      ∙ ap (λ js. gateway_value s.plans s.moment s.contexts.standing.drained fs js opened t.begun tally) jobs_are
+  rest_is s t fs jobs opened tally plans moment drained jobs_are = cc
 
   -- where the step begins no call and starts no job
   pub quiet_is : (s t : Shared H) (k l : HeldConnection) (fs : Conns) (opened : ℕ) (tally : Tally) → LeavesRest [] k l s t → t.begun ≡ s.begun
       → gateway_of t fs opened tally ≡ gateway_value s.plans s.moment s.contexts.standing.drained fs s.jobs.jobs opened s.begun tally
-  quiet_is s t k l fs opened tally rest begun =
-      rest_is s t fs s.jobs.jobs opened tally rest.plans_are rest.moment_is rest.others.contexts.drained_is (rest.jobs_are ∙ append_none s.jobs.jobs)
-      ∙ ap (λ b. gateway_value s.plans s.moment s.contexts.standing.drained fs s.jobs.jobs opened b tally) begun
-
-  pub tally_whole : (s : Shared H) (es fs : Conns) (opened open_now : ℕ) (tally after : Tally) → fs ≡ es → IsWhole s es opened open_now tally → IsServing (gateway_of s fs opened after)
-      → IsWhole s fs opened open_now after
-  tally_whole s es fs opened open_now tally after same w serving = record {
-    serving = serving;
-    fit = subst (AreFit none_over s) (sym same) w.fit;
-    open_is = w.open_is ∙ ap (λ gs. open_count (gateway_of s gs opened after)) (sym same);
-  }
+  quiet_is s t k l fs opened tally rest begun = grind (arith, nat_tests, rest_is, append_none)
 
   pub whole_moved : (s t : Shared H) (es fs : Conns) (opened later open_now open_then : ℕ) (tally after : Tally) (n : ℕ) (now : Option HeldConnection) → IsWhole s es opened open_now tally
       → IsServing (gateway_of t fs later after) → Moves n now (gateway_of s es opened tally) (gateway_of t fs later after) → LeavesOthers n s.contexts t.contexts → TiedAt none_over n now t.contexts
@@ -156,9 +109,7 @@ module _ {H : Type 0} where
   -- ---- one that may be gone
 
   tied_left_at : (n : ℕ) (l : HeldConnection) (b : Bool) → is_gone l ≡ b → (x : HookedContexts H) → l.number ≡ n → Holds l → IsTied none_over l x → TiedAt none_over n (left_of l) x
-  tied_left_at n l true gone x its holds tied = subst (λ o. TiedAt none_over n o x) (sym (left_none l gone))
-      (subst (λ m. own_contexts m x.standing ≡ contexts_value x.standing.drained [] []) its (gone_tied none_over l x (gone_closed l gone) (holds.dead (ap (λ b. b || l.broken) (gone_closed l gone))) tied))
-  tied_left_at n l false stays x its holds tied = subst (λ o. TiedAt none_over n o x) (sym (left_there l stays)) tied
+  tied_left_at n l b h3 x h5 h6 h7 = grind (arith, nat_tests, left_none, gone_tied, gone_closed, left_there)
 
   -- one connection made a step, and is taken out where nothing comes back to it
   module _ {s : Shared H} {es fs gs : Conns} {opened open_now : ℕ} {tally : Tally} (w : IsWhole s es opened open_now tally) (n : ℕ) (k l : HeldConnection) (found : Some k ≡ held_at n es)
@@ -208,7 +159,4 @@ module _ {H : Type 0} where
 
   -- one that is open is counted
   pub one_open : (s : Shared H) (es : Conns) (opened open_now : ℕ) (tally : Tally) (n : ℕ) (k : HeldConnection) → IsWhole s es opened open_now tally → Some k ≡ held_at n es → k.closed ≡ false → 1 ≤ open_now
-  one_open s es opened open_now tally n k w found still =
-      let counted = sum_holds one_if_open n k es (sym found) in
-      let one : one_if_open k ≡ 1 = ap (λ b. if b then 0 else 1) still in
-      omega (arith, counted, one, w.open_is)
+  one_open s es opened open_now tally n k w found still = grind (arith, nat_tests, sum_holds)

@@ -1,15 +1,7 @@
 -- The contexts of branches that start and finish.
-use Rattle.std.proofs.Common.{◌≡◌, ℕ, refl, sym, ap, ◌∙◌, List, [], ◌∷◌, Bool, true, false, ⊎_elim, subst, map}
-use Rattle.std.specs.Prelude.{IfOk, OnErr, OnOk, Result, Ok, Err, is_some, if◌then◌else◌}
-use Rattle.std.specs.List.{list_any}
-use Rattle.std.proofs.lemmas.Bool.{cases_Bool, cond_both, or_parts}
-use Rattle.std.proofs.lemmas.List.Elements.{All-head, All-tail}
-use Rattle.context_tree.specs.Context.{Id, same}
-use Rattle.call_contexts.specs.Standing.{WithHooks, with_standing, on_branches as standing_on, with_branches as standing_with}
-use Rattle.gateway_model.specs.declared.id.CallId.{CallId}
-use Rattle.gateway_model.specs.Past.{is_call}
+use Rattle.gateway_replies.proofs.Names.{◌≡◌, ℕ, refl, sym, ap, ◌∙◌, List, [], ◌∷◌, Bool, true, false, ⊎_elim, subst, map, is_some, IfOk, OnErr, OnOk, Result, Ok, Err, if◌then◌else◌, list_any, cases_Bool, cond_both, or_parts, All-head, All-tail, Id, same, WithHooks, with_standing, on_branches as standing_on, with_branches as standing_with, CallId, is_call, names_in, AllContexts, CallContext, ConnContext, contexts_of, ContextsValue, IsTied, LifeValue, Peers, TimedBranch, contexts_value, is_life, life_of, peers_of, lives_of}
+use Rattle.gateway_replies.specs.Contexts.{on_branches, with_branches}
 use Rattle.gateway_replies.specs.declared.contexts.cancelled.CancelledBy.{CancelledBy}
-use Rattle.gateway_replies.specs.Contexts.{names_in, AllContexts, CallContext, ConnContext, contexts_of, ContextsValue, IsTied, LifeValue, Peers, TimedBranch, contexts_value, is_life, life_of, peers_of, lives_of, on_branches, with_branches}
 use Rattle.gateway_replies.proofs.ContextLemmas.{Agree}
 use Rattle.gateway_replies.proofs.ToldLemmas.{Stays, drained_stays, names_stay, told_tied}
 

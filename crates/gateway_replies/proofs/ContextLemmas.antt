@@ -1,20 +1,7 @@
 -- The contexts of calls, beside those of the tree.
-use Rattle.std.proofs.Common.{◌≡◌, ℕ, ◌≤◌, ◌<◌, zero, suc, refl, sym, ap, ◌∙◌, List, [], ◌∷◌, ◌++◌, Option, Some, None, Bool, true, false, ⊎_elim, subst, length, arith}
-use Rattle.std.specs.Prelude.{IfNone, IfSome, ◌||◌, ◌==◌, All, is_some, not, if◌then◌else◌, filter, option_map, slice_set, slice_index_or}
-use Rattle.std.specs.List.{list_any}
-use Rattle.std.specs.Option.{option_or}
-use Rattle.std.proofs.lemmas.Bool.{cases_Bool, eq-eqb, or_parts}
-use Rattle.std.proofs.lemmas.List.{map_push}
-use Rattle.std.proofs.lemmas.List.Elements.{All-cons, All-filter, All-head, All-nil, All-push, All-tail, All-weaker}
-use Rattle.std.proofs.lemmas.Option.{same_Some}
-use Rattle.context_tree.specs.Context.{Id, same}
-use Rattle.call_contexts.specs.Standing.{AreApart, ctx_for, first_of, if_due, is_conn, is_fresh, opened as standing_opened, begun as standing_begun, without as standing_without, closed as standing_closed, is_call as is_standing, has_ended as standing_ended, is_over as is_standing_over}
-use Rattle.gateway_model.specs.declared.id.CallId.{CallId}
-use Rattle.gateway_model.specs.Past.{ArrivedCall, is_call}
-use Rattle.gateway_replies.specs.declared.contexts.peer.Peer.{Peer}
-use Rattle.gateway_replies.specs.Ties.{peer_tie, peer_ties}
-use Rattle.gateway_replies.specs.Contexts.{AllContexts, OnPeer, life_of, CallContext, ConnContext, LivesApart, PeerValue, by_deadline, by_drain, begun, contexts_of, ContextsValue, IsTied, KeepsOthers, LifeValue, NoTwo, Peers, closed, contexts_value, ctx_of, ends_of, first_life, has_ended, is_over, is_life, is_peer, peer, peers_of, lives_of, opened, others, same_id, same_context, same_number, without, without_calls}
-use Rattle.gateway_theory.specs.lemmas.Cases.{all_stay, or_true}
+use Rattle.gateway_replies.proofs.Names.{◌≡◌, ℕ, ◌≤◌, ◌<◌, zero, suc, refl, sym, ap, ◌∙◌, List, [], ◌∷◌, ◌++◌, Option, Some, None, Bool, true, false, ⊎_elim, subst, length, arith, is_some, IfNone, IfSome, ◌||◌, ◌==◌, All, not, if◌then◌else◌, filter, option_map, slice_set, slice_index_or, list_any, cases_Bool, eq-eqb, or_parts, map_push, All-cons, All-filter, All-head, All-nil, All-push, All-tail, All-weaker, same_Some, Id, same, AreApart, ctx_for, first_of, is_conn, is_fresh, opened as standing_opened, begun as standing_begun, without as standing_without, CallId, ArrivedCall, is_call, Peer, peer_tie, peer_ties, AllContexts, OnPeer, life_of, CallContext, ConnContext, LivesApart, PeerValue, contexts_of, ContextsValue, IsTied, KeepsOthers, LifeValue, NoTwo, Peers, closed, contexts_value, ctx_of, first_life, has_ended, is_over, is_life, is_peer, peers_of, lives_of, others, same_id, same_context, same_number, without_calls, all_stay, nat_tests}
+use Rattle.call_contexts.specs.Standing.{closed as standing_closed, is_call as is_standing, has_ended as standing_ended, is_over as is_standing_over}
+use Rattle.gateway_replies.specs.Contexts.{begun, opened, without}
 use Rattle.gateway_theory.specs.lemmas.LimitLemmas.{same_call}
 use Rattle.gateway_theory.specs.lemmas.StoreLemmas.{call_itself}
 use Rattle.gateway_replies.proofs.ListLemmas.{call_turned, context_turned, due_same, filter_map_both, no_two_pushed, number_turned, any_map, no_two_kept, same_itself, same_true}
@@ -46,25 +33,16 @@ module _ {V : Type 0} where
 
   pub first_in : (text : V → List ℕ) (cs : List (CallContext V)) (number : ℕ) → first_life number (lives_of text cs) ≡ first_of number cs
   first_in text [] number = refl
-  first_in text (c ∷ cs) number = ⊎_elim
-      (λ (y : (c.name.conn == number) ≡ true). rw y refl)
-      (λ (n : (c.name.conn == number) ≡ false). rw n (first_in text cs number))
-      (cases_Bool (c.name.conn == number))
+  first_in text (c ∷ cs) number = grind (arith, first_in text cs number)
 
   pub no_ctx_for : (id : CallId) (cs : List (CallContext V)) → ctx_for id cs ≡ None → list_any (λ c. is_call c.name id) cs ≡ false
   no_ctx_for id [] is = refl
-  no_ctx_for id (c ∷ cs) is = ⊎_elim
-      (λ (y : is_call c.name id ≡ true). let bad : Some c.id ≡ None = rw y at is in cc)
-      (λ (n : is_call c.name id ≡ false). rw n (no_ctx_for id cs (rw n at is)))
-      (cases_Bool (is_call c.name id))
+  no_ctx_for id (c ∷ cs) is = grind (arith, no_ctx_for id cs)
 
   -- the context of a call is that of one that stands
   pub stands_in : (cs : List (CallContext V)) (id : CallId) (x : Id) → ctx_for id cs ≡ Some x → is_standing x cs ≡ true
   stands_in [] id x is = cc
-  stands_in (c ∷ cs) id x is = ⊎_elim
-      (λ (y : is_call c.name id ≡ true). let its : c.id ≡ x = same_Some c.id x (rw y at is) in rw (its, same_itself x) refl)
-      (λ (n : is_call c.name id ≡ false). ap (λ b. same c.id x || b) (stands_in cs id x (rw n at is)) ∙ or_true (same c.id x))
-      (cases_Bool (is_call c.name id))
+  stands_in (c ∷ cs) id x is = grind (arith, stands_in cs id x)
 
   -- the context is that of the call, or neither
   abbrev pub Agree : CallId → Id → List (CallContext V) → Type 0
@@ -148,27 +126,16 @@ module _ {V : Type 0} where
 
 pub others_stay : (number : ℕ) (ls : List LifeValue) → first_life number ls ≡ None → others number ls ≡ ls
 others_stay number [] none = refl
-others_stay number (l ∷ ls) none = ⊎_elim
-    (λ (y : (l.id.conn == number) ≡ true). let bad : Some l.id ≡ None = rw y at none in cc)
-    (λ (n : (l.id.conn == number) ≡ false). rw n (ap (λ k. l ∷ k) (others_stay number ls (rw n at none))))
-    (cases_Bool (l.id.conn == number))
+others_stay number (l ∷ ls) none = grind (arith, others_stay number ls)
 
 shorter : (id : CallId) (ls : List LifeValue) → length (filter (λ (l : LifeValue). not (is_call l.id id)) ls) ≤ length ls
 shorter id [] = omega arith
-shorter id (l ∷ ls) = ⊎_elim
-    (λ (y : is_call l.id id ≡ true). rw y (let less = shorter id ls in omega (arith, less)))
-    (λ (n : is_call l.id id ≡ false). rw n (let less = shorter id ls in omega (arith, less)))
-    (cases_Bool (is_call l.id id))
+shorter id (l ∷ ls) = grind (arith, shorter id ls)
 
 -- without one of its calls the others are the same
 same_others : (number : ℕ) (id : CallId) (ls : List LifeValue) → (id.conn == number) ≡ true → others number (filter (λ (l : LifeValue). not (is_call l.id id)) ls) ≡ others number ls
 same_others number id [] its = refl
-same_others number id (l ∷ ls) its = ⊎_elim
-    (λ (y : is_call l.id id ≡ true).
-    let off : (l.id.conn == number) ≡ true = ap (λ (k : CallId). k.conn == number) (same_call l.id id y) ∙ its in
-    rw (y, off) (same_others number id ls its))
-    (λ (n : is_call l.id id ≡ false). rw n (ap (λ k. if not (l.id.conn == number) then l ∷ k else k) (same_others number id ls its)))
-    (cases_Bool (is_call l.id id))
+same_others number id (l ∷ ls) its = grind (arith, same_others number id ls its)
 
 -- the context of a call goes, and those of other connections stay
 pub without_others : (id : CallId) (x : ContextsValue) → KeepsOthers id.conn x (without id x)
@@ -177,22 +144,7 @@ without_others id x = record { drained_is = refl; conns_are = refl; others_are =
 pub first_gone : (number : ℕ) (id : CallId) (ls : List LifeValue) → first_life number ls ≡ Some id
     → ((id.conn == number) ≡ true) × (length (filter (λ (l : LifeValue). not (is_call l.id id)) ls) < length ls)
 first_gone number id [] is = cc
-first_gone number id (l ∷ ls) is = ⊎_elim
-    (λ (y : (l.id.conn == number) ≡ true).
-    let id_is : l.id ≡ id = same_Some l.id id (rw y at is) in
-    let here : is_call l.id id ≡ true = ap (λ k. is_call k id) id_is ∙ call_itself id in (
-      ap (λ (k : CallId). k.conn == number) (sym id_is) ∙ y,
-      rw here (let less = shorter id ls in omega (arith, less)),
-    ))
-    (λ (n : (l.id.conn == number) ≡ false).
-    let rest = first_gone number id ls (rw n at is) in (
-      rest.0,
-      ⊎_elim
-          (λ (y : is_call l.id id ≡ true). rw y (let less = rest.1 in omega (arith, less)))
-          (λ (o : is_call l.id id ≡ false). rw o (let less = rest.1 in omega (arith, less)))
-          (cases_Bool (is_call l.id id)),
-    ))
-    (cases_Bool (l.id.conn == number))
+first_gone number id (l ∷ ls) is = grind (arith, nat_tests, first_gone number id ls, same_Some, call_itself, shorter)
 
 -- one after another is dropped, until none is left
 pub drops_one : (number : ℕ) (id : CallId) (v w u : ContextsValue) → KeepsOthers number v w → (id.conn == number) ≡ true → u ≡ without id w → KeepsOthers number v u
@@ -200,9 +152,7 @@ drops_one number id v w u keeps its u_is = subst (KeepsOthers number v) (sym u_i
     (record { drained_is = keeps.drained_is; conns_are = keeps.conns_are; others_are = same_others number id w.calls its ∙ keeps.others_are })
 
 pub drops_all : (number : ℕ) (v w : ContextsValue) → KeepsOthers number v w → first_life number w.calls ≡ None → w ≡ without_calls number v
-drops_all number v w keeps none =
-    ap (λ b. contexts_value b w.conns w.calls) keeps.drained_is ∙ ap (λ cs. contexts_value v.drained cs w.calls) keeps.conns_are
-    ∙ ap (contexts_value v.drained v.conns) (sym (others_stay number w.calls none) ∙ keeps.others_are)
+drops_all number v w keeps none = grind (arith, nat_tests, others_stay)
 
 -- ---- as the code keeps them
 
@@ -292,18 +242,7 @@ module _ {V : Type 0} where
   pub begun_value : (text : V → List ℕ) (ps qs : Peers) (v w : AllContexts V) (u : ContextsValue) (a : ArrivedCall) (id : CallId) (x conn : Id) (deadline : Option ℕ) (now : ℕ)
       (request_id : Option V) → qs ≡ ps → w ≡ standing_begun x id conn deadline now request_id v → IsTied ps v → ctx_of id.conn ps ≡ Some conn
       → contexts_of text ps v ≡ u → deadline ≡ a.deadline → option_map text request_id ≡ a.request_id → contexts_of text qs w ≡ begun now id a u
-  begun_value text ps qs v w u a id x conn deadline now request_id qs_are w_is tied known u_is deadline_is id_is =
-      ap (λ xs. contexts_of text xs w) qs_are
-      ∙ ap (contexts_of text ps) w_is
-      ∙ ap (contexts_value (is_some v.drained) (peers_of ps v.conns)) (map_push (life_of text) v.calls _)
-      ∙ ap (λ b. contexts_value (is_some v.drained) (peers_of ps v.conns) (lives_of text v.calls
-      ++ record { id = id; deadline = deadline; request_id = option_map text request_id; ended = option_or b (if_due now deadline); branches = [] } ∷ []))
-      (peer_ended id.conn conn (by_drain (is_some v.drained)) ps v.conns tied.conns_are known tied.contexts_apart)
-      ∙ ap (λ (y : ContextsValue). contexts_value y.drained y.conns (y.calls
-      ++ record { id = id; deadline = deadline; request_id = option_map text request_id; ended = option_or (ends_of y id.conn) (if_due now deadline); branches = [] } ∷ [])) u_is
-      ∙ ap (λ b. contexts_value u.drained u.conns (u.calls ++ record { id = id; deadline = deadline; request_id = option_map text request_id; ended = option_or (ends_of u id.conn) b; branches = [] } ∷ [])) (due_same now deadline)
-      ∙ ap (λ d. contexts_value u.drained u.conns (u.calls ++ record { id = id; deadline = d; request_id = option_map text request_id; ended = option_or (ends_of u id.conn) (by_deadline now d); branches = [] } ∷ [])) deadline_is
-      ∙ ap (λ r. contexts_value u.drained u.conns (u.calls ++ record { id = id; deadline = a.deadline; request_id = r; ended = option_or (ends_of u id.conn) (by_deadline now a.deadline); branches = [] } ∷ [])) id_is
+  begun_value text ps qs v w u a id x conn deadline now request_id qs_are w_is tied known u_is deadline_is id_is = grind (arith, nat_tests, map_push, peer_ended, due_same)
 
   pub opened_tied : {H : Type 0} (peers more : List (Peer H)) (v w : AllContexts V) (u : ContextsValue) (text : V → List ℕ) (p : Peer H) → more ≡ peers ++ p ∷ []
       → w ≡ standing_opened p.ctx v → IsTied (peer_ties peers) v → is_fresh p.ctx v ≡ true → contexts_of text (peer_ties peers) v ≡ u → is_peer p.number u.conns ≡ false
@@ -315,12 +254,7 @@ module _ {V : Type 0} where
 
   pub opened_value : {H : Type 0} (peers more : List (Peer H)) (v w : AllContexts V) (u : ContextsValue) (text : V → List ℕ) (p : Peer H) → more ≡ peers ++ p ∷ []
       → w ≡ standing_opened p.ctx v → IsTied (peer_ties peers) v → contexts_of text (peer_ties peers) v ≡ u → contexts_of text (peer_ties more) w ≡ opened p.number u
-  opened_value peers more v w u text p more_is w_is tied u_is =
-      ap (contexts_of text (peer_ties more)) w_is
-      ∙ ap (λ ps. contexts_of text ps (standing_opened p.ctx v)) (ap peer_ties more_is ∙ map_push peer_tie peers p)
-      ∙ ap (λ ns. contexts_value (is_some v.drained) ns (lives_of text v.calls)) (peers_pushed (peer_ties peers) v.conns (peer_tie p) (record { id = p.ctx; ended = v.drained }) tied.conns_are)
-      ∙ ap (λ e. contexts_value (is_some v.drained) (peers_of (peer_ties peers) v.conns ++ peer p.number e ∷ []) (lives_of text v.calls)) tied.drained_is
-      ∙ ap (opened p.number) u_is
+  opened_value peers more v w u text p more_is w_is tied u_is = grind (arith, nat_tests, map_push, peers_pushed)
 
 -- ---- what is over
 

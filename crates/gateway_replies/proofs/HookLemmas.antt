@@ -1,25 +1,9 @@
 -- The hooks of connections and of calls, beside their contexts.
-use Rattle.std.proofs.Common.{◌≡◌, ℕ, ◌<◌, zero, suc, refl, sym, ap, ◌∙◌, List, [], ◌∷◌, ◌++◌, append-nil, Option, Some, None, true, false, ⊎_elim, inl, inr, subst, length, arith}
-use Rattle.std.specs.Prelude.{◌⊎◌, IfNone, IfOk, IfSome, OnErr, OnOk, Result, Ok, Err, ◌==◌, not, if◌then◌else◌, filter, slice_set, slice_index_or}
-use Rattle.std.specs.List.{list_any}
-use Rattle.std.proofs.lemmas.Bool.{cases_Bool, eqb-true, or_parts}
-use Rattle.std.proofs.lemmas.List.{map_push}
-use Rattle.std.proofs.lemmas.List.Elements.{All-head, All-tail}
-use Rattle.std.proofs.lemmas.Option.{same_Some}
-use Rattle.context_tree.specs.Context.{Id, same}
-use Rattle.call_contexts.specs.Standing.{WithHooks, with_standing, ctx_for, first_of, hook_for}
+use Rattle.gateway_replies.proofs.Names.{◌≡◌, ℕ, ◌<◌, zero, suc, refl, sym, ap, ◌∙◌, List, [], ◌∷◌, ◌++◌, append-nil, Option, Some, None, true, false, ⊎_elim, subst, length, arith, ◌⊎◌, IfNone, IfOk, IfSome, OnErr, OnOk, Result, Ok, Err, ◌==◌, not, if◌then◌else◌, filter, slice_set, slice_index_or, list_any, cases_Bool, eqb-true, or_parts, map_push, All-head, All-tail, same_Some, Id, same, WithHooks, with_standing, ctx_for, first_of, hook_for, CallId, is_call, all_stay, Peer, names_in, AllContexts, CallContext, ContextsValue, ctx_of, BringsHooks, Called, DropsHooks, GivesBytes, HookedContexts, Hooks, KeepsHooks, LosesHook, KeepsStocks, Stocks, TakesHook, hook_of, hooked, hooks_but, hooks_of_others, stock_in, stock_of, AreHooked, Takes, hooks_of, peer_ties, stock_tie, stock_ties, nat_tests}
 use Rattle.http_pieces.specs.Request.{most_requests}
 use Rattle.std.specs.declared.alloc.AllocError.{AllocError}
 use Rattle.gateway_model.specs.declared.ending.Ending.{Ending}
-use Rattle.gateway_model.specs.declared.id.CallId.{CallId}
-use Rattle.gateway_model.specs.Past.{is_call}
-use Rattle.gateway_theory.specs.lemmas.Cases.{all_stay, sym_eqb}
-use Rattle.gateway_theory.specs.lemmas.LimitLemmas.{same_call}
-use Rattle.gateway_replies.specs.declared.contexts.peer.Peer.{Peer}
 use Rattle.gateway_replies.specs.declared.contexts.cancelled.CancelledBy.{CancelledBy}
-use Rattle.gateway_replies.specs.Contexts.{names_in, AllContexts, CallContext, ContextsValue, ctx_of}
-use Rattle.gateway_replies.specs.Hooks.{BringsHooks, Called, DropsHooks, GivesBytes, HookedContexts, Hooks, KeepsHooks, LosesHook, KeepsStocks, Stocks, TakesHook, hook_of, hooked, hooks_but, hooks_of_others, stock_in, stock_of}
-use Rattle.gateway_replies.specs.Ties.{AreHooked, Takes, hooks_of, peer_ties, stock_tie, stock_ties}
 use Rattle.gateway_replies.proofs.ListLemmas.{filter_map_both}
 use Rattle.gateway_replies.proofs.PeerLemmas.{first_same, rest_same}
 use Rattle.gateway_replies.proofs.ContextLemmas.{Agree, no_ctx_for}
@@ -29,10 +13,7 @@ use Rattle.gateway_replies.proofs.ContextLemmas.{Agree, no_ctx_for}
 -- the first call of a connection is one of it
 pub first_of_it : {V : Type 0} (number : ℕ) (cs : List (CallContext V)) (id : CallId) → first_of number cs ≡ Some id → (id.conn == number) ≡ true
 first_of_it number [] id is = cc
-first_of_it number (c ∷ cs) id is = ⊎_elim
-    (λ (y : (c.name.conn == number) ≡ true). ap (λ (k : CallId). k.conn == number) (sym (same_Some c.name id (rw y at is))) ∙ y)
-    (λ (n : (c.name.conn == number) ≡ false). first_of_it number cs id (rw n at is))
-    (cases_Bool (c.name.conn == number))
+first_of_it number (c ∷ cs) id is = grind (arith, first_of_it number cs id)
 
 module _ {V H : Type 0} where
   -- one that is not there has no hook
@@ -86,21 +67,13 @@ module _ {H : Type 0} where
   -- without one of the connection's calls the hooks of others are the same
   pub same_hooks : (number : ℕ) (id : CallId) (hooks : Hooks H) → (id.conn == number) ≡ true → hooks_of_others number (hooks_but id hooks) ≡ hooks_of_others number hooks
   same_hooks number id [] its = refl
-  same_hooks number id (h ∷ hs) its = ⊎_elim
-      (λ (y : is_call h.0 id ≡ true).
-      let off : (h.0.conn == number) ≡ true = ap (λ (k : CallId). k.conn == number) (same_call h.0 id y) ∙ its in
-      rw (y, off) (same_hooks number id hs its))
-      (λ (n : is_call h.0 id ≡ false). rw n (ap (λ k. if not (h.0.conn == number) then h ∷ k else k) (same_hooks number id hs its)))
-      (cases_Bool (is_call h.0 id))
+  same_hooks number id (h ∷ hs) its = grind (arith, same_hooks number id hs its)
 
   -- of a connection without calls none has a hook
   pub hooks_stay : {V : Type 0} (number : ℕ) (cs : List (CallContext V)) (hs : List (Id × H)) → first_of number cs ≡ None → hooks_of (names_in cs) hs ≡ hooks_of_others number (hooks_of (names_in cs) hs)
   hooks_stay number [] hs none = refl
   hooks_stay number (c ∷ cs) [] none = refl
-  hooks_stay number (c ∷ cs) (h ∷ hs) none = ⊎_elim
-      (λ (y : (c.name.conn == number) ≡ true). let bad : Some c.name ≡ None = rw y at none in cc)
-      (λ (n : (c.name.conn == number) ≡ false). rw n (ap (λ k. (c.name, h.1) ∷ k) (hooks_stay number cs hs (rw n at none))))
-      (cases_Bool (c.name.conn == number))
+  hooks_stay number (c ∷ cs) (h ∷ hs) none = grind (arith, hooks_stay number cs hs)
 
 -- ---- the hooks that connections have
 
@@ -126,21 +99,8 @@ module _ {H : Type 0} where
   pub stock_set : (number i : ℕ) (ps : List (Peer H)) (p q : Peer H) → i < length ps → p ≡ slice_index_or ps i p → (p.number == number) ≡ true → q.number ≡ p.number → AreOthers number i ps
       → (stock_of number (stock_ties ps) ≡ p.stock.items) × (stock_of number (stock_ties (slice_set ps i q)) ≡ q.stock.items) × KeepsStocks number (stock_ties ps) (stock_ties (slice_set ps i q))
   stock_set number i [] p q low is its same others = absurd (omega (arith, low))
-  stock_set number zero (r ∷ ps) p q low is its same others = (
-    ap (λ (z : Peer H). stock_of number (stock_ties (z ∷ ps))) (sym is) ∙ rw its refl,
-    rw (same, its) refl,
-    λ other ne.
-        let p_off : (p.number == other) ≡ false = ap (λ k. k == other) (eqb-true p.number number its) ∙ sym_eqb number other ∙ ne in
-        let q_off : (q.number == other) ≡ false = ap (λ k. k == other) same ∙ p_off in
-        let r_off : (r.number == other) ≡ false = ap (λ (z : Peer H). z.number == other) (sym is) ∙ p_off in
-        rw (q_off, r_off) refl,
-  )
-  stock_set number (suc i) (r ∷ ps) p q low is its same others =
-      let rest = stock_set number i ps p q (omega (arith, low)) is its same others.1 in (
-        rw others.0 rest.0,
-        rw others.0 rest.1,
-        λ other ne. ap (λ s. if r.number == other then r.stock.items else s) (rest.2 other ne),
-      )
+  stock_set number zero (r ∷ ps) p q low is its same others = grind arith
+  stock_set number (suc i) (r ∷ ps) p q low is its same others = grind (arith, stock_set number i ps p q)
 
   set_same : (i : ℕ) (ps : List (Peer H)) (p q : Peer H) → p ≡ slice_index_or ps i p → q.number ≡ p.number → q.stock.items ≡ p.stock.items → stock_ties (slice_set ps i q) ≡ stock_ties ps
   set_same i [] p q is number_is stock_is = refl
@@ -150,15 +110,7 @@ module _ {H : Type 0} where
   -- the first hook of the one at that place is taken
   pub taken_at : (number i : ℕ) (ps : List (Peer H)) (p q : Peer H) (r : Option H) → i < length ps → p ≡ slice_index_or ps i p → (p.number == number) ≡ true → q.number ≡ p.number
       → AreOthers number i ps → IfSome r (λ h. p.stock.items ≡ h ∷ q.stock.items) → IfNone r ((p.stock.items ≡ []) × (q.stock.items ≡ [])) → Takes number r (stock_ties ps) (stock_ties (slice_set ps i q))
-  taken_at number i ps p q (Some hook) low is its same others first none =
-      let set = stock_set number i ps p q low is its same others in (
-        set.0 ∙ first ∙ ap (λ s. hook ∷ s) (sym set.1),
-        set.2,
-      )
-  taken_at number i ps p q None low is its same others first none = (
-    (stock_set number i ps p q low is its same others).0 ∙ none.0,
-    set_same i ps p q is same (none.1 ∙ sym none.0),
-  )
+  taken_at number i ps p q r h6 h7 h8 h9 h10 h11 h12 = grind (arith, nat_tests, stock_set, set_same)
 
   -- none is of that number
   pub no_stock : (number : ℕ) (ps : List (Peer H)) → AreOthers number (length ps) ps → stock_of number (stock_ties ps) ≡ []
@@ -177,45 +129,25 @@ module _ {H : Type 0} where
 module _ {H : Type 0} where
   stock_is : (number : ℕ) (ss : Stocks H) (stock : List H) → stock_in number ss ≡ Some stock → stock_of number ss ≡ stock
   stock_is number [] stock is = absurd (let clash : None ≡ Some stock = is in cc)
-  stock_is number (s ∷ ss) stock is = ⊎_elim
-      (λ (y : (s.0 == number) ≡ true). rw y (same_Some s.1 stock (rw y at is)))
-      (λ (n : (s.0 == number) ≡ false). rw n (stock_is number ss stock (rw n at is)))
-      (cases_Bool (s.0 == number))
+  stock_is number (s ∷ ss) stock is = grind (arith, stock_is number ss stock)
 
   pub no_stock_in : (number : ℕ) (ps : List (Peer H)) → ctx_of number (peer_ties ps) ≡ None → stock_in number (stock_ties ps) ≡ None
   no_stock_in number [] none = refl
-  no_stock_in number (p ∷ ps) none = ⊎_elim
-      (λ (y : (p.number == number) ≡ true). absurd (let clash : Some p.ctx ≡ None = rw y at none in cc))
-      (λ (n : (p.number == number) ≡ false). rw n (no_stock_in number ps (rw n at none)))
-      (cases_Bool (p.number == number))
+  no_stock_in number (p ∷ ps) none = grind (arith, no_stock_in number ps)
 
   pub has_stock : (number : ℕ) (ps : List (Peer H)) (x : Id) → ctx_of number (peer_ties ps) ≡ Some x → stock_in number (stock_ties ps) ≡ Some (stock_of number (stock_ties ps))
   has_stock number [] x is = absurd (let clash : None ≡ Some x = is in cc)
-  has_stock number (p ∷ ps) x is = ⊎_elim
-      (λ (y : (p.number == number) ≡ true). rw y refl)
-      (λ (n : (p.number == number) ≡ false). rw n (has_stock number ps x (rw n at is)))
-      (cases_Bool (p.number == number))
+  has_stock number (p ∷ ps) x is = grind (arith, has_stock number ps x)
 
   -- connections with the same contexts have stocks alike
   there_too : (number : ℕ) (ps qs : List (Peer H)) (stock : List H) → peer_ties qs ≡ peer_ties ps → stock_in number (stock_ties qs) ≡ Some stock
       → stock_in number (stock_ties ps) ≡ Some (stock_of number (stock_ties ps))
-  there_too number ps qs stock ties is = by_ctx (ctx_of number (peer_ties ps)) refl
-    where
-      by_ctx : (o : Option Id) → ctx_of number (peer_ties ps) ≡ o → stock_in number (stock_ties ps) ≡ Some (stock_of number (stock_ties ps))
-      by_ctx (Some x) o_is = has_stock number ps x o_is
-      by_ctx None o_is = absurd (let clash : Some stock ≡ None = sym is ∙ no_stock_in number qs (ap (ctx_of number) ties ∙ o_is) in cc)
+  there_too number ps qs stock ties is = grind (arith, nat_tests, has_stock, no_stock_in)
 
   pub takes_at_most : (number : ℕ) (r : Option H) (ps qs : List (Peer H)) → peer_ties qs ≡ peer_ties ps → Takes number r (stock_ties ps) (stock_ties qs) → (other : ℕ) (stock : List H)
       → stock_in other (stock_ties qs) ≡ Some stock
       → (stock_in other (stock_ties ps) ≡ Some stock) ⊎ ((other ≡ number) × ((hook : H) × (stock_in other (stock_ties ps) ≡ Some (hook ∷ stock))))
-  takes_at_most number None ps qs ties takes other stock is = inl (ap (stock_in other) (sym takes.1) ∙ is)
-  takes_at_most number (Some hook) ps qs ties takes other stock is = ⊎_elim
-      (λ (y : (other == number) ≡ true).
-      let e : other ≡ number = eqb-true other number y in
-      let left : stock_of number (stock_ties qs) ≡ stock = ap (λ n. stock_of n (stock_ties qs)) (sym e) ∙ stock_is other (stock_ties qs) stock is in
-      inr (e, (hook, there_too other ps qs stock ties is ∙ ap Some (ap (λ n. stock_of n (stock_ties ps)) e ∙ takes.0 ∙ ap (λ s. hook ∷ s) left))))
-      (λ (n : (other == number) ≡ false). inl (there_too other ps qs stock ties is ∙ ap Some (sym (takes.1 other n) ∙ stock_is other (stock_ties qs) stock is)))
-      (cases_Bool (other == number))
+  takes_at_most number r ps qs h4 h5 other stock h8 = grind (arith, nat_tests, eqb-true, stock_is, there_too)
 
   -- a connection that is not there has none
   pub no_stock_yet : (number : ℕ) (ps : List (Peer H)) → list_any (λ (p : ℕ × Id). p.0 == number) (peer_ties ps) ≡ false → stock_in number (stock_ties ps) ≡ None
@@ -227,34 +159,19 @@ module _ {H : Type 0} where
   pub takes_most : {log : Called} (u : HookedContexts H) (x : ContextsValue) (ps qs : List (Peer H)) (hs : Hooks H) (number : ℕ) (r : Option H) → hooked x (stock_ties ps) hs log ≡ u → peer_ties qs ≡ peer_ties ps
       → Takes number r (stock_ties ps) (stock_ties qs) → (other : ℕ) (stock : List H) → stock_in other (stock_ties qs) ≡ Some stock
       → (stock_in other u.stocks ≡ Some stock) ⊎ ((other ≡ number) × ((hook : H) × (stock_in other u.stocks ≡ Some (hook ∷ stock))))
-  takes_most u x ps qs hs number r u_is ties takes other stock there =
-      subst (λ (v : HookedContexts H). (stock_in other v.stocks ≡ Some stock) ⊎ ((other ≡ number) × ((hook : H) × (stock_in other v.stocks ≡ Some (hook ∷ stock))))) u_is
-      (takes_at_most number r ps qs ties takes other stock there)
+  takes_most u x ps qs hs number r u_is ties takes other stock there = grind (arith, nat_tests, takes_at_most)
 
 -- ---- what becomes of them, as the code keeps them
 
 module _ {H : Type 0} where
   pub keeps : {log : Called} (u : HookedContexts H) (x y : ContextsValue) (ps : List (Peer H)) (ls ms : List CallId) (hs is : List (Id × H)) → hooked x (stock_ties ps) (hooks_of ls hs) log ≡ u → ms ≡ ls → is ≡ hs
       → KeepsHooks u (hooked y (stock_ties ps) (hooks_of ms is) log)
-  keeps u x y ps ls ms hs is u_is ms_is e = record {
-    stocks_are = ap (λ (v : HookedContexts H). v.stocks) u_is;
-    hooks_are = ap (λ m. hooks_of m is) ms_is ∙ ap (hooks_of ls) e ∙ ap (λ (v : HookedContexts H). v.hooks) u_is;
-    called_are = ap (λ (v : HookedContexts H). v.called) u_is;
-  }
+  keeps u x y ps ls ms hs is u_is ms_is e = grind arith
 
   pub brings : {log : Called} (u : HookedContexts H) (x y : ContextsValue) (ps more : List (Peer H)) (p : Peer H) (stock : List H) (ls ms : List CallId) (hs is : List (Id × H)) → hooked x (stock_ties ps) (hooks_of ls hs) log ≡ u
       → ms ≡ ls → is ≡ hs → more ≡ ps ++ p ∷ [] → p.stock.items ≡ stock → length stock ≡ most_requests → stock_in p.number (stock_ties ps) ≡ None
       → BringsHooks p.number stock u (hooked y (stock_ties more) (hooks_of ms is) log)
-  brings u x y ps more p stock ls ms hs is u_is ms_is e more_is stock_is full new =
-      let same_all = keeps u x y ps ls ms hs is u_is ms_is e in
-      record {
-        full = full;
-        none = ap (λ (v : HookedContexts H). stock_in p.number v.stocks) (sym u_is) ∙ new;
-        stocks_are = ap stock_ties more_is ∙ map_push stock_tie ps p ∙ ap (λ (v : HookedContexts H). v.stocks ++ (p.number, p.stock.items) ∷ []) u_is
-            ∙ ap (λ s. u.stocks ++ (p.number, s) ∷ []) stock_is;
-        hooks_are = same_all.hooks_are;
-        called_are = same_all.called_are;
-      }
+  brings u x y ps more p stock ls ms hs is u_is ms_is e more_is stock_is full new = grind (arith, nat_tests, keeps, map_push, stock_is)
 
   pub takes_one : {V : Type 0} {log : Called} (u : HookedContexts H) (x y : ContextsValue) (ps qs : List (Peer H)) (cs : List (CallContext V)) (ms : List CallId) (hs is : List (Id × H)) (l : CallId × Id) (hook : H)
       → hooked x (stock_ties ps) (hooks_of (names_in cs) hs) log ≡ u → stock_of l.0.conn (stock_ties ps) ≡ hook ∷ stock_of l.0.conn (stock_ties qs) → AreHooked cs hs
@@ -271,20 +188,11 @@ module _ {H : Type 0} where
   pub drops_one : {V : Type 0} {log later : Called} (more : Called) (u : HookedContexts H) (y z : ContextsValue) (peers : List (Peer H)) (cs left : List (CallContext V)) (hs is : List (Id × H)) (id : CallId) (x : Id)
       → hooked y (stock_ties peers) (hooks_of (names_in cs) hs) log ≡ u → AreHooked cs hs → Agree id x cs → left ≡ filter (λ c. not (same c.id x)) cs → is ≡ filter (λ h. not (same h.0 x)) hs
       → later ≡ log ++ more → LosesHook id more u (hooked z (stock_ties peers) (hooks_of (names_in left) is) later)
-  drops_one more u y z peers cs left hs is id x u_is hooked all left_is is_is later_is = record {
-    stocks_are = ap (λ (v : HookedContexts H). v.stocks) u_is;
-    hooks_are = ap (λ ds. hooks_of (names_in ds) is) left_is ∙ ap (hooks_of (names_in (filter (λ c. not (same c.id x)) cs))) is_is
-        ∙ hooks_less cs hs id x hooked all ∙ ap (λ (v : HookedContexts H). hooks_but id v.hooks) u_is;
-    called_are = later_is ∙ ap (λ (v : HookedContexts H). v.called ++ more) u_is;
-  }
+  drops_one more u y z peers cs left hs is id x u_is hooked all left_is is_is later_is = grind (arith, nat_tests, hooks_less)
 
   pub drops_none : {V : Type 0} {log : Called} (u : HookedContexts H) (y : ContextsValue) (ss : Stocks H) (cs : List (CallContext V)) (hs : List (Id × H)) (id : CallId)
       → hooked y ss (hooks_of (names_in cs) hs) log ≡ u → ctx_for id cs ≡ None → LosesHook id [] u u
-  drops_none u y ss cs hs id u_is none = record {
-    stocks_are = refl;
-    hooks_are = subst (λ (v : HookedContexts H). v.hooks ≡ hooks_but id v.hooks) u_is (no_hook_but id cs hs (no_ctx_for id cs none));
-    called_are = sym (append-nil u.called);
-  }
+  drops_none u y ss cs hs id u_is none = grind (arith, nat_tests, no_hook_but, no_ctx_for, append-nil)
 
   pub calls_hook : {V : Type 0} {log : Called} (u : HookedContexts H) (y : ContextsValue) (ss : Stocks H) (cs : List (CallContext V)) (hs : List (Id × H)) (id : CallId) (x : Id) (hook : H)
       → hooked y ss (hooks_of (names_in cs) hs) log ≡ u → AreHooked cs hs → Agree id x cs → hook_of id u.hooks ≡ Some hook → hook_for x hs ≡ Some hook
@@ -294,26 +202,15 @@ module _ {H : Type 0} where
   pub drops_its : {V : Type 0} {log : Called} (u : HookedContexts H) (y z : ContextsValue) (peers left : List (Peer H)) (cs : List (CallContext V)) (ms : List CallId) (hs is : List (Id × H)) (number : ℕ)
       → hooked y (stock_ties peers) (hooks_of (names_in cs) hs) log ≡ u → left ≡ filter (λ p. not (p.number == number)) peers → ms ≡ names_in cs → is ≡ hs → first_of number cs ≡ None
       → DropsHooks number u (hooked z (stock_ties left) (hooks_of ms is) log)
-  drops_its u y z peers left cs ms hs is number u_is left_is ms_is is_is none = record {
-    stocks_are = ap stock_ties left_is ∙ stocks_less number peers ∙ ap (λ (v : HookedContexts H). filter (λ s. not (s.0 == number)) v.stocks) u_is;
-    hooks_are = ap (λ m. hooks_of m is) ms_is ∙ ap (hooks_of (names_in cs)) is_is ∙ hooks_stay number cs hs none ∙ ap (λ (v : HookedContexts H). hooks_of_others number v.hooks) u_is;
-    called_are = ap (λ (v : HookedContexts H). v.called) u_is;
-  }
+  drops_its u y z peers left cs ms hs is number u_is left_is ms_is is_is none = grind (arith, nat_tests, stocks_less, hooks_stay)
 
   no_peer : (number : ℕ) (peers : List (Peer H)) → ctx_of number (peer_ties peers) ≡ None → list_any (λ (s : ℕ × List H). s.0 == number) (stock_ties peers) ≡ false
   no_peer number [] none = refl
-  no_peer number (p ∷ ps) none = ⊎_elim
-      (λ (y : (p.number == number) ≡ true). let bad : Some p.ctx ≡ None = rw y at none in cc)
-      (λ (n : (p.number == number) ≡ false). rw n (no_peer number ps (rw n at none)))
-      (cases_Bool (p.number == number))
+  no_peer number (p ∷ ps) none = grind (arith, no_peer number ps)
 
   pub drops_nothing : {V : Type 0} {log : Called} (u : HookedContexts H) (y : ContextsValue) (peers : List (Peer H)) (cs : List (CallContext V)) (hs : List (Id × H)) (number : ℕ)
       → hooked y (stock_ties peers) (hooks_of (names_in cs) hs) log ≡ u → ctx_of number (peer_ties peers) ≡ None → first_of number cs ≡ None → DropsHooks number u u
-  drops_nothing u y peers cs hs number u_is no_conn none = record {
-    stocks_are = subst (λ (v : HookedContexts H). v.stocks ≡ filter (λ s. not (s.0 == number)) v.stocks) u_is (stocks_stay number peers (no_peer number peers no_conn));
-    hooks_are = subst (λ (v : HookedContexts H). v.hooks ≡ hooks_of_others number v.hooks) u_is (hooks_stay number cs hs none);
-    called_are = refl;
-  }
+  drops_nothing u y peers cs hs number u_is no_conn none = grind (arith, nat_tests, stocks_stay, no_peer, hooks_stay)
 
 -- where a branch has its context, and where memory was refused, the hooks stay
 module _ {V H : Type 0} where

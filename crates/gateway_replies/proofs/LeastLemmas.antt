@@ -1,11 +1,5 @@
 -- The least deadline of the contexts is the one by which they are due.
-use Rattle.std.proofs.Common.{◌≡◌, ℕ, refl, sym, ap, ◌∙◌, List, [], ◌∷◌, Option, Some, None, true, false, map, arith}
-use Rattle.std.specs.Prelude.{IfSome, ◌||◌, ◌&&◌, All, is_none, nat_le, if◌then◌else◌}
-use Rattle.std.specs.List.{list_any}
-use Rattle.std.specs.Option.{option_map_or}
-use Rattle.call_contexts.specs.Standing.{AreNoSooner, IsNoSooner, has_deadline}
-use Rattle.gateway_model.specs.Past.{is_due, least_of}
-use Rattle.gateway_replies.specs.Contexts.{CallContext, Ended, LifeValue, TimedBranch, has_due, lives_of}
+use Rattle.gateway_replies.proofs.Names.{◌≡◌, ℕ, refl, ap, List, [], ◌∷◌, Option, Some, None, true, false, map, arith, IfSome, ◌&&◌, All, is_none, nat_le, if◌then◌else◌, list_any, option_map_or, AreNoSooner, IsNoSooner, has_deadline, is_due, least_of, CallContext, Ended, LifeValue, TimedBranch, has_due, lives_of, nat_tests}
 use Rattle.gateway_replies.specs.Least.{branch_deadline, first_deadline, life_deadline}
 use Rattle.gateway_replies.proofs.ToldLemmas.{any_due, due_is}
 use Rattle.gateway_theory.specs.lemmas.Deadlines.{due_smaller}
@@ -16,23 +10,14 @@ one_due m (Some e) d = refl
 
 branches_due : (m : ℕ) (bs : List TimedBranch) → is_due m (least_of (map branch_deadline bs)) ≡ any_due m bs
 branches_due m [] = refl
-branches_due m (b ∷ bs) =
-    due_smaller m (branch_deadline b) (least_of (map branch_deadline bs))
-    ∙ ap (λ x. x || is_due m (least_of (map branch_deadline bs))) (one_due m b.ended (Some b.deadline))
-    ∙ ap (λ y. (is_none b.ended && nat_le b.deadline m) || y) (branches_due m bs)
+branches_due m (b ∷ bs) = grind (arith, branches_due m bs)
 
 life_due : (m : ℕ) (l : LifeValue) → is_due m (life_deadline l) ≡ has_due m l
-life_due m l =
-    due_smaller m (if is_none l.ended then l.deadline else None) (least_of (map branch_deadline l.branches))
-    ∙ ap (λ x. x || is_due m (least_of (map branch_deadline l.branches))) (one_due m l.ended l.deadline)
-    ∙ ap (λ y. (is_none l.ended && is_due m l.deadline) || y) (branches_due m l.branches)
+life_due m l = grind (arith, nat_tests, due_smaller, one_due, branches_due)
 
 lives_due : (m : ℕ) (ls : List LifeValue) → is_due m (first_deadline ls) ≡ list_any (has_due m) ls
 lives_due m [] = refl
-lives_due m (l ∷ ls) =
-    due_smaller m (life_deadline l) (first_deadline ls)
-    ∙ ap (λ x. x || is_due m (first_deadline ls)) (life_due m l)
-    ∙ ap (λ y. has_due m l || y) (lives_due m ls)
+lives_due m (l ∷ ls) = grind (arith, nat_tests, lives_due m ls, due_smaller, life_due)
 
 -- two that each moment has reached alike are the same
 same_due : (a b : Option ℕ) → ((m : ℕ) → is_due m a ≡ is_due m b) → a ≡ b
@@ -51,6 +36,4 @@ due_as m (Some at) = refl
 module _ {V : Type 0} where
   pub first_is : (text : V → List ℕ) (cs : List (CallContext V)) (first : Option ℕ)
       → All (IsNoSooner first) cs → All (AreNoSooner first) cs → IfSome first (λ at. list_any (has_deadline at) cs ≡ true) → first ≡ first_deadline (lives_of text cs)
-  first_is text cs first all branches its =
-      same_due first (first_deadline (lives_of text cs))
-      (λ m. due_as m first ∙ due_is text cs m first all branches its ∙ sym (lives_due m (lives_of text cs)))
+  first_is text cs first all branches its = grind (arith, nat_tests, same_due, due_as, due_is, lives_due)

@@ -1,14 +1,6 @@
 -- Lists of which no two are alike, and what is the same in two words.
-use Rattle.std.proofs.Common.{◌≡◌, ℕ, refl, ap, ◌∙◌, List, [], ◌∷◌, ◌++◌, Option, Some, None, Bool, true, false, ⊎_elim, map, arith, rules}
-use Rattle.std.specs.Prelude.{◌||◌, filter}
-use Rattle.std.specs.List.{list_any}
-use Rattle.std.specs.Option.{option_or}
-use Rattle.std.proofs.lemmas.Bool.{cases_Bool, or_parts}
+use Rattle.gateway_replies.proofs.Names.{◌≡◌, ℕ, refl, ap, ◌∙◌, List, [], ◌∷◌, ◌++◌, Option, Some, None, Bool, true, false, ⊎_elim, map, arith, rules, ◌||◌, filter, list_any, option_or, cases_Bool, or_parts, Id, same, ends_branch, if_due, CallContext, by_deadline, NoTwo, TimedBranch, same_id, same_context, same_number, sym_eqb, nat_tests}
 use Rattle.std.proofs.lemmas.List.Folds.{list_any-append}
-use Rattle.context_tree.specs.Context.{Id, same}
-use Rattle.call_contexts.specs.Standing.{ends_branch, if_due}
-use Rattle.gateway_replies.specs.Contexts.{CallContext, by_deadline, NoTwo, TimedBranch, same_id, same_context, same_number}
-use Rattle.gateway_theory.specs.lemmas.Cases.{sym_eqb}
 
 any_kept : {A : Type 0} (p q : A → Bool) (xs : List A) → list_any p xs ≡ false → list_any p (filter q xs) ≡ false
 any_kept p q [] is = refl
@@ -25,17 +17,11 @@ any_map p f (x ∷ xs) = ap (λ b. p (f x) || b) (any_map p f xs)
 
 pub no_two_kept : {A : Type 0} (r : A → A → Bool) (q : A → Bool) (xs : List A) → NoTwo r xs → NoTwo r (filter q xs)
 no_two_kept r q [] all = tt
-no_two_kept r q (x ∷ xs) all = ⊎_elim
-    (λ (y : q x ≡ true). rw y (any_kept (r x) q xs all.0, no_two_kept r q xs all.1))
-    (λ (n : q x ≡ false). rw n (no_two_kept r q xs all.1))
-    (cases_Bool (q x))
+no_two_kept r q (x ∷ xs) all = grind (arith, nat_tests, no_two_kept r q xs all.1, any_kept)
 
 pub filter_map_both : {A B : Type 0} (p : B → Bool) (f : A → B) (xs : List A) → map f (filter (λ x. p (f x)) xs) ≡ filter p (map f xs)
 filter_map_both p f [] = refl
-filter_map_both p f (x ∷ xs) = ⊎_elim
-    (λ (y : p (f x) ≡ true). rw y (ap (λ l. f x ∷ l) (filter_map_both p f xs)))
-    (λ (n : p (f x) ≡ false). rw n (filter_map_both p f xs))
-    (cases_Bool (p (f x)))
+filter_map_both p f (x ∷ xs) = grind (arith, filter_map_both p f xs)
 
 pub no_two_pushed : {A : Type 0} (r : A → A → Bool) → ((x y : A) → r x y ≡ r y x) → (xs : List A) (x : A) → NoTwo r xs → list_any (r x) xs ≡ false → NoTwo r (xs ++ x ∷ [])
 no_two_pushed r turned [] x all none = (refl, tt)

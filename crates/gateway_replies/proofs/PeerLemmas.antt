@@ -1,68 +1,29 @@
 -- The contexts of connections, beside those of the tree.
-use Rattle.std.proofs.Common.{◌≡◌, ℕ, refl, sym, ap, ◌∙◌, List, [], ◌∷◌, ◌++◌, Some, None, true, false, ⊎_elim, subst, map}
-use Rattle.std.specs.Prelude.{◌||◌, ◌==◌, not, if◌then◌else◌, filter, slice_index_or}
-use Rattle.std.specs.List.{list_any}
-use Rattle.std.specs.Option.{option_or}
-use Rattle.context_tree.specs.declared.error.Cause.TheVariants.{Given}
-use Rattle.std.proofs.lemmas.Bool.{cases_Bool, or_parts, eqb-true}
-use Rattle.std.proofs.lemmas.Option.{same_Some}
-use Rattle.context_tree.specs.Context.{Id, same}
-use Rattle.call_contexts.specs.Standing.{ends_conn, if_cancelled, ended_conn}
-use Rattle.gateway_replies.specs.declared.contexts.cancelled.CancelledBy.TheVariants.{HangUp, Drain}
-use Rattle.gateway_replies.specs.Contexts.{ConnContext, Ended, PeerValue, by_drain, by_hang_up, LifeValue, NoTwo, Peers, ctx_of, ended_peer, ends_life, ends_peer, first_life, is_peer, peer, peers_of, same_context, same_number}
-use Rattle.gateway_theory.specs.lemmas.Cases.{all_stay, or_true, sym_eqb}
+use Rattle.gateway_replies.proofs.Names.{◌≡◌, ℕ, refl, sym, ap, ◌∙◌, List, [], ◌∷◌, ◌++◌, Some, None, true, false, ⊎_elim, subst, map, arith, ◌||◌, ◌==◌, not, filter, slice_index_or, list_any, option_or, Given, cases_Bool, or_parts, eqb-true, same_Some, Id, same, ends_conn, if_cancelled, ended_conn, HangUp, Drain, ConnContext, Ended, PeerValue, by_drain, by_hang_up, LifeValue, NoTwo, Peers, ctx_of, ended_peer, ends_life, ends_peer, first_life, is_peer, peer, peers_of, same_context, same_number, all_stay, nat_tests}
 use Rattle.gateway_replies.proofs.ListLemmas.{branches_stay, or_nothing, any_map, same_itself, same_turned}
 
 pub ctx_more : (m : ℕ) (ps : Peers) (p : ℕ × Id) (x : Id) → ctx_of m ps ≡ Some x → ctx_of m (ps ++ p ∷ []) ≡ Some x
 ctx_more m [] p x is = cc
-ctx_more m (q ∷ qs) p x is = ⊎_elim
-    (λ (y : (q.0 == m) ≡ true). rw y (rw y at is))
-    (λ (n : (q.0 == m) ≡ false). rw n (ctx_more m qs p x (rw n at is)))
-    (cases_Bool (q.0 == m))
+ctx_more m (q ∷ qs) p x is = grind (arith, ctx_more m qs p x)
 
 -- the context of one of them is not one that none has
 ctx_apart : (m : ℕ) (ps : Peers) (x z : Id) → ctx_of m ps ≡ Some x → list_any (λ q. same q.1 z) ps ≡ false → same x z ≡ false
 ctx_apart m [] x z is none = cc
-ctx_apart m (q ∷ qs) x z is none =
-    let two = or_parts (same q.1 z) (list_any (λ p. same p.1 z) qs) none in
-    ⊎_elim
-    (λ (y : (q.0 == m) ≡ true). subst (λ w. same w z ≡ false) (same_Some q.1 x (rw y at is)) two.0)
-    (λ (n : (q.0 == m) ≡ false). ctx_apart m qs x z (rw n at is) two.1)
-    (cases_Bool (q.0 == m))
+ctx_apart m (q ∷ qs) x z is none = grind (arith, ctx_apart m qs x z)
 
 -- connections of two numbers have two contexts
 pub two_apart : (m n : ℕ) (ps : Peers) (x y : Id) → NoTwo same_context ps → ctx_of m ps ≡ Some x → ctx_of n ps ≡ Some y → (m == n) ≡ false → same x y ≡ false
 two_apart m n [] x y apart mx ny ne = cc
-two_apart m n (q ∷ qs) x y apart mx ny ne = ⊎_elim
-    (λ (here : (q.0 == m) ≡ true).
-    let x_is : q.1 ≡ x = same_Some q.1 x (rw here at mx) in
-    let not_n : (q.0 == n) ≡ false = ap (λ k. k == n) (eqb-true q.0 m here) ∙ ne in
-    let there : ctx_of n qs ≡ Some y = rw not_n at ny in
-    same_turned x y ∙ ctx_apart n qs y x there (subst (λ z. list_any (λ p. same p.1 z) qs ≡ false) x_is apart.0))
-    (λ (far : (q.0 == m) ≡ false). ⊎_elim
-    (λ (here : (q.0 == n) ≡ true).
-    let y_is : q.1 ≡ y = same_Some q.1 y (rw here at ny) in
-    ctx_apart m qs x y (rw far at mx) (subst (λ z. list_any (λ p. same p.1 z) qs ≡ false) y_is apart.0))
-    (λ (off : (q.0 == n) ≡ false). two_apart m n qs x y apart.1 (rw far at mx) (rw off at ny) ne)
-    (cases_Bool (q.0 == n)))
-    (cases_Bool (q.0 == m))
+two_apart m n (q ∷ qs) x y apart mx ny ne = grind (arith, nat_tests, two_apart m n qs x y apart.1, same_Some, eqb-true, same_turned, ctx_apart)
 
 pub known_in : (number : ℕ) (ps : Peers) (x : Id) → ctx_of number ps ≡ Some x → list_any (λ y. same y x) (map (λ p. p.1) ps) ≡ true
 known_in number [] x is = cc
-known_in number (p ∷ ps) x is = ⊎_elim
-    (λ (y : (p.0 == number) ≡ true). rw (same_Some p.1 x (rw y at is), same_itself x) refl)
-    (λ (n : (p.0 == number) ≡ false). ap (λ b. same p.1 x || b) (known_in number ps x (rw n at is)) ∙ or_true (same p.1 x))
-    (cases_Bool (p.0 == number))
+known_in number (p ∷ ps) x is = grind (arith, known_in number ps x)
 
 -- without the connection of that number
 pub less_ctx : (m number : ℕ) (ps : Peers) → (m == number) ≡ false → ctx_of m (filter (λ p. not (p.0 == number)) ps) ≡ ctx_of m ps
 less_ctx m number [] ne = refl
-less_ctx m number (p ∷ ps) ne = ⊎_elim
-    (λ (y : (p.0 == number) ≡ true).
-    let off : (p.0 == m) ≡ false = sym_eqb p.0 m ∙ ap (λ k. m == k) (eqb-true p.0 number y) ∙ ne in
-    rw (y, off) (less_ctx m number ps ne))
-    (λ (n : (p.0 == number) ≡ false). rw n (ap (λ o. if p.0 == m then Some p.1 else o) (less_ctx m number ps ne)))
-    (cases_Bool (p.0 == number))
+less_ctx m number (p ∷ ps) ne = grind (arith, less_ctx m number ps ne)
 
 pub less_contexts : (number : ℕ) (ps : Peers) (x : Id) → ctx_of number ps ≡ Some x → NoTwo same_number ps → NoTwo same_context ps
     → filter (λ y. not (same y x)) (map (λ p. p.1) ps) ≡ map (λ p. p.1) (filter (λ p. not (p.0 == number)) ps)
@@ -91,11 +52,7 @@ pub first_same : (x y : Id) (xs ys : List Id) → x ∷ xs ≡ y ∷ ys → x �
 first_same x y xs ys e = ap (λ (zs : List Id). slice_index_or zs 0 x) e
 
 pub rest_same : (x y : Id) (xs ys : List Id) → x ∷ xs ≡ y ∷ ys → xs ≡ ys
-rest_same x y xs ys e = ap (λ (zs : List Id). rest zs) e
-  where
-    rest : List Id → List Id
-    rest [] = []
-    rest (z ∷ zs) = zs
+rest_same x y xs ys e = cc
 
 none_there : (ps : Peers) (cs : List ConnContext) (x : Id) → AreThose ps cs → list_any (λ (p : ℕ × Id). same p.1 x) ps ≡ false → list_any (λ (c : ConnContext). same c.id x) cs ≡ false
 none_there ps cs x those none = sym (any_map (λ z. same z x) (λ (c : ConnContext). c.id) cs) ∙ ap (list_any (λ z. same z x)) those ∙ any_map (λ z. same z x) (λ (p : ℕ × Id). p.1) ps ∙ none
@@ -115,12 +72,7 @@ peers_pushed (q ∷ ps) (d ∷ cs) p c those = ap (λ xs. peer q.0 d.ended ∷ x
 module _ (number : ℕ) (x : Id) where
   its_first : (p : ℕ × Id) (ps : Peers) (c : ConnContext) (cs : List ConnContext) → AreThose (p ∷ ps) (c ∷ cs) → (p.0 == number) ≡ true → ctx_of number (p ∷ ps) ≡ Some x → NoTwo same_number (p ∷ ps) → NoTwo same_context (p ∷ ps)
       → (same c.id x ≡ true) × (list_any (λ (q : ℕ × Id). q.0 == number) ps ≡ false) × (list_any (λ (d : ConnContext). same d.id x) cs ≡ false)
-  its_first p ps c cs those y is numbers contexts =
-      let x_is : p.1 ≡ x = same_Some p.1 x (rw y at is) in (
-        ap (λ z. same z x) (first_same _ _ _ _ those ∙ x_is) ∙ same_itself x,
-        subst (λ k. list_any (λ (q : ℕ × Id). q.0 == k) ps ≡ false) (eqb-true p.0 number y) numbers.0,
-        none_there ps cs x (rest_same _ _ _ _ those) (subst (λ z. list_any (λ (q : ℕ × Id). same q.1 z) ps ≡ false) x_is contexts.0),
-      )
+  its_first p ps c cs those y is numbers contexts = grind (arith, nat_tests, same_Some, first_same, same_itself, eqb-true, none_there, rest_same)
 
   other_first : (p : ℕ × Id) (ps : Peers) (c : ConnContext) (cs : List ConnContext) → AreThose (p ∷ ps) (c ∷ cs) → ctx_of number ps ≡ Some x → NoTwo same_context (p ∷ ps) → same c.id x ≡ false
   other_first p ps c cs those there contexts = ap (λ z. same z x) (first_same _ _ _ _ those) ∙ same_turned p.1 x ∙ ctx_apart number ps x p.1 there contexts.0
@@ -155,28 +107,13 @@ module _ (number : ℕ) (x : Id) where
       → peers_of ps (map (λ (c : ConnContext). ends_conn (if_cancelled (same c.id x) HangUp) c) cs) ≡ map (λ p. ends_peer (by_hang_up (p.number == number)) p) (peers_of ps cs)
   peers_hung [] cs those is numbers contexts = cc
   peers_hung (p ∷ ps) [] those is numbers contexts = cc
-  peers_hung (p ∷ ps) (c ∷ cs) those is numbers contexts = ⊎_elim
-      (λ (y : (p.0 == number) ≡ true).
-      let its = its_first p ps c cs those y is numbers contexts in
-      rw (y, its.0) (ap (λ xs. peer p.0 (option_or c.ended (Some (Given HangUp))) ∷ xs) (none_hung ps cs its.1 its.2)))
-      (λ (n : (p.0 == number) ≡ false).
-      let there : ctx_of number ps ≡ Some x = rw n at is in
-      rw (n, other_first p ps c cs those there contexts) (ap (λ xs. peer p.0 (option_or c.ended None) ∷ xs) (peers_hung ps cs (rest_same _ _ _ _ those) there numbers.1 contexts.1)))
-      (cases_Bool (p.0 == number))
+  peers_hung (p ∷ ps) (c ∷ cs) those is numbers contexts = grind (arith, nat_tests, peers_hung ps cs, its_first, none_hung, other_first, rest_same)
 
   -- what ended its context
   pub peer_ended : (new : Ended) (ps : Peers) (cs : List ConnContext) → AreThose ps cs → ctx_of number ps ≡ Some x → NoTwo same_context ps → ended_conn x cs ≡ ended_peer new number (peers_of ps cs)
   peer_ended new [] cs those is contexts = cc
   peer_ended new (p ∷ ps) [] those is contexts = cc
-  peer_ended new (p ∷ ps) (c ∷ cs) those is contexts = ⊎_elim
-      (λ (y : (p.0 == number) ≡ true).
-      let x_is : p.1 ≡ x = same_Some p.1 x (rw y at is) in
-      let its : same c.id x ≡ true = ap (λ z. same z x) (first_same _ _ _ _ those ∙ x_is) ∙ same_itself x in
-      rw (y, its) refl)
-      (λ (n : (p.0 == number) ≡ false).
-      let there : ctx_of number ps ≡ Some x = rw n at is in
-      rw (n, other_first p ps c cs those there contexts) (peer_ended new ps cs (rest_same _ _ _ _ those) there contexts.1))
-      (cases_Bool (p.0 == number))
+  peer_ended new (p ∷ ps) (c ∷ cs) those is contexts = grind (arith, nat_tests, peer_ended new ps cs, same_Some, first_same, same_itself, other_first, rest_same)
 
 pub peers_drained : (ps : Peers) (cs : List ConnContext) → peers_of ps (map (ends_conn (Some (Given Drain))) cs) ≡ map (λ p. ends_peer (by_drain true) p) (peers_of ps cs)
 peers_drained [] cs = refl
@@ -187,10 +124,7 @@ peers_drained (p ∷ ps) (c ∷ cs) = ap (λ xs. peer p.0 (option_or c.ended (So
 pub not_in : (number : ℕ) (ps : Peers) (cs : List ConnContext) → ctx_of number ps ≡ None → is_peer number (peers_of ps cs) ≡ false
 not_in number [] cs is = refl
 not_in number (p ∷ ps) [] is = refl
-not_in number (p ∷ ps) (c ∷ cs) is = ⊎_elim
-    (λ (y : (p.0 == number) ≡ true). let bad : Some p.1 ≡ None = rw y at is in cc)
-    (λ (n : (p.0 == number) ≡ false). rw n (not_in number ps cs (rw n at is)))
-    (cases_Bool (p.0 == number))
+not_in number (p ∷ ps) (c ∷ cs) is = grind (arith, not_in number ps cs)
 
 pub peers_stay : (number : ℕ) (ps : List PeerValue) → is_peer number ps ≡ false → map (λ p. ends_peer (by_hang_up (p.number == number)) p) ps ≡ ps
 peers_stay number [] none = refl
@@ -200,7 +134,4 @@ peers_stay number (p ∷ ps) none =
 
 pub lives_stay : (number : ℕ) (ls : List LifeValue) → first_life number ls ≡ None → map (λ l. ends_life (by_hang_up (l.id.conn == number)) l) ls ≡ ls
 lives_stay number [] none = refl
-lives_stay number (l ∷ ls) none = ⊎_elim
-    (λ (y : (l.id.conn == number) ≡ true). let bad : Some l.id ≡ None = rw y at none in cc)
-    (λ (n : (l.id.conn == number) ≡ false). rw (n, or_nothing l.ended, branches_stay l.branches) (ap (λ xs. l ∷ xs) (lives_stay number ls (rw n at none))))
-    (cases_Bool (l.id.conn == number))
+lives_stay number (l ∷ ls) none = grind (arith, nat_tests, lives_stay number ls, or_nothing, branches_stay)

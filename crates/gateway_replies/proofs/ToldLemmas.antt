@@ -1,20 +1,7 @@
 -- The contexts when what may end them is told.
-use Rattle.std.proofs.Common.{◌≡◌, ℕ, refl, sym, ap, ◌∙◌, List, [], ◌∷◌, Option, Some, None, Bool, true, false, ⊎_elim, subst, map, arith, rules}
-use Rattle.std.specs.Prelude.{IfSome, ◌&&◌, ◌==◌, All, is_some, is_none, nat_le, option_map}
-use Rattle.std.specs.List.{list_any}
-use Rattle.std.specs.Option.{option_map_or, option_or}
+use Rattle.gateway_replies.proofs.Names.{◌≡◌, ℕ, refl, sym, ap, ◌∙◌, List, [], ◌∷◌, Option, Some, None, Bool, true, false, ⊎_elim, subst, map, arith, rules, is_some, IfSome, ◌&&◌, ◌==◌, All, is_none, nat_le, option_map, list_any, option_map_or, option_or, All-cons, All-head, All-map, All-nil, All-tail, All-weaker, Given, and_from, and_parts, cases_Bool, or_cases, or_from, or_left, or_parts, or_right, eqb-true, same_Some, Id, same, AreNoSooner, IsNoSooner, has_deadline, ended_call, ends_branch, ends_call, ends_conn, ended_branch, expires_branch, expires_call, if_cancelled, expired as standing_expired, cancelled as standing_cancelled, all_ended as standing_ended, CallId, is_call, is_due, HangUp, Drain, names_in, AllContexts, NoTwo, OnPeer, life_of, same_id, IsNotDue, CallContext, ConnContext, Ended, by_drain, by_hang_up, contexts_of, ContextsValue, IsTied, LifeValue, Peers, TimedBranch, contexts_value, ctx_of, ending_life, ends_life, event_of, expires_life, ends_peer, first_life, has_due, is_peer, peers_of, told, lives_of, nat_tests}
 use Rattle.context_tree.specs.Tree.{IsNotAfter}
-use Rattle.std.proofs.lemmas.List.Elements.{All-cons, All-head, All-map, All-nil, All-tail, All-weaker}
-use Rattle.context_tree.specs.declared.error.Cause.TheVariants.{Given}
-use Rattle.std.proofs.lemmas.Bool.{and_from, and_parts, cases_Bool, or_cases, or_from, or_left, or_parts, or_right, eqb-true}
-use Rattle.std.proofs.lemmas.Option.{same_Some}
-use Rattle.context_tree.specs.Context.{Id, same}
-use Rattle.call_contexts.specs.Standing.{AreNoSooner, IsNoSooner, has_deadline, ended_call, ends_branch, ends_call, ends_conn, ended_branch, expires_branch, expires_call, if_cancelled, expired as standing_expired, cancelled as standing_cancelled, all_ended as standing_ended}
 use Rattle.gateway_theory.specs.declared.trigger.Trigger.TheVariants.{Reached, HungUp, Drained}
-use Rattle.gateway_model.specs.declared.id.CallId.{CallId}
-use Rattle.gateway_model.specs.Past.{is_call, is_due}
-use Rattle.gateway_replies.specs.declared.contexts.cancelled.CancelledBy.TheVariants.{HangUp, Drain}
-use Rattle.gateway_replies.specs.Contexts.{names_in, AllContexts, NoTwo, OnPeer, life_of, same_id, IsNotDue, CallContext, ConnContext, Ended, by_drain, by_hang_up, contexts_of, ContextsValue, IsTied, LifeValue, Peers, TimedBranch, contexts_value, ctx_of, ending_life, ends_life, event_of, expires_life, ends_peer, first_life, has_due, is_peer, peers_of, told, lives_of}
 use Rattle.gateway_replies.proofs.ListLemmas.{due_same, same_itself}
 use Rattle.gateway_replies.proofs.PeerLemmas.{lives_stay, not_in, peers_drained, peers_hung, peers_stay, two_apart}
 
@@ -75,9 +62,7 @@ module _ {V : Type 0} where
       → ((c : CallContext V) → OnPeer ps c → life_of text (f c) ≡ h (life_of text c)) → All (OnPeer ps) cs
       → lives_of text (map f cs) ≡ map h (lives_of text cs)
   lives_told text ps [] f h each tied = refl
-  lives_told text ps (c ∷ cs) f h each tied =
-      ap (λ x. x ∷ lives_of text (map f cs)) (each c (All-head (OnPeer ps) c cs tied))
-      ∙ ap (λ xs. h (life_of text c) ∷ xs) (lives_told text ps cs f h each (All-tail (OnPeer ps) c cs tied))
+  lives_told text ps (c ∷ cs) f h each tied = search (arith, nat_tests, lives_told text ps cs f h each, All-head, All-tail)
 
   pub told_tied : (ps : Peers) (v w : AllContexts V) (f : CallContext V → CallContext V) → Stays f → w.drained ≡ by_drain (is_some w.drained) → w.calls ≡ map f v.calls
       → map (λ (c : ConnContext). c.id) w.conns ≡ map (λ (c : ConnContext). c.id) v.conns → IsTied ps v → IsTied ps w
@@ -93,12 +78,7 @@ module _ {V : Type 0} where
 
   -- a drain is what all were drained for
   pub drained_by : (ps : Peers) (v w : AllContexts V) → w ≡ standing_ended Drain v → IsTied ps v → w.drained ≡ by_drain (is_some w.drained)
-  drained_by ps v w w_is tied = subst (λ (x : AllContexts V). x.drained ≡ by_drain (is_some x.drained)) (sym w_is)
-      (subst (λ d. option_or d (Some (Given Drain)) ≡ by_drain (is_some (option_or d (Some (Given Drain))))) (sym tied.drained_is) (by (is_some v.drained)))
-    where
-      by : (b : Bool) → option_or (by_drain b) (Some (Given Drain)) ≡ by_drain (is_some (option_or (by_drain b) (Some (Given Drain))))
-      by true = refl
-      by false = refl
+  drained_by ps v w w_is tied = grind arith
 
   -- it stays what it was
   pub drained_stays : (ps : Peers) (v w : AllContexts V) → w.drained ≡ v.drained → IsTied ps v → w.drained ≡ by_drain (is_some w.drained)
@@ -165,10 +145,7 @@ module _ {V : Type 0} where
   -- the event by which a call ends, as its contexts tell it
   pub life_ended : (text : V → List ℕ) (moment : ℕ) (cs : List (CallContext V)) (id : CallId) → event_of moment (ended_call id cs) (ended_branch id cs) ≡ ending_life moment id (lives_of text cs)
   life_ended text moment [] id = refl
-  life_ended text moment (c ∷ cs) id = ⊎_elim
-      (λ (y : is_call c.name id ≡ true). rw y refl)
-      (λ (n : is_call c.name id ≡ false). rw n (life_ended text moment cs id))
-      (cases_Bool (is_call c.name id))
+  life_ended text moment (c ∷ cs) id = grind (arith, life_ended text moment cs id)
 
   -- where the least deadline is not reached, none is
   pub none_due : (text : V → List ℕ) (cs : List (CallContext V)) (moment : ℕ) (first : Option ℕ) → option_map_or (λ at. nat_le at moment) first false ≡ false

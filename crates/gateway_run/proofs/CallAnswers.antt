@@ -1,32 +1,21 @@
 -- The answer to a call: all its answers joined, or the error of the event that decided it.
-use Rattle.std.proofs.Common.{min, ◌≡◌, ℕ, zero, suc, ◌+◌, ◌≤◌, ◌<◌, Bool, true, false, List, [], ◌∷◌, ◌++◌, length, reverse, Option, None, Some, refl, sym, ap, ◌∙◌, subst, arith, append_assoc, ⊎_elim}
-use Rattle.std.specs.Prelude.{◌==◌, ◌&&◌, ◌||◌, not, nat_lt, if◌then◌else◌, is_none, is_some, option_and_then, option_map, option_to_list}
-use Rattle.std.specs.Option.{option_or, option_map_or}
-use Rattle.std.proofs.lemmas.Bool.{and_parts, cases_eq, cond_both, eq-eqb, eqb-true, ltb-true}
-use Rattle.std.proofs.lemmas.List.{reverse-reverse}
-use Rattle.connect_codec.specs.Reply.{error_reply}
-use Rattle.connect_codec.specs.declared.answer.Outcome.TheVariants.{Answer, Fail}
-use Rattle.gateway_model.specs.declared.entry.ReplyEntry.TheVariants.{Call as Calling}
+use Rattle.gateway_run.proofs.Names.{answers, ArrivedCall, Mark, Past, branches, call, count_below, counts, decided, decides, mark_of, marked, own_event, past_of, min, ◌≡◌, ℕ, zero, suc, ◌+◌, ◌≤◌, ◌<◌, Bool, true, false, List, [], ◌∷◌, ◌++◌, length, reverse, Option, None, Some, refl, sym, ap, ◌∙◌, subst, arith, append_assoc, ⊎_elim, ◌==◌, ◌&&◌, ◌||◌, not, nat_lt, if◌then◌else◌, is_none, is_some, option_and_then, option_map, option_to_list, option_or, option_map_or, and_parts, cases_eq, eq-eqb, eqb-true, ltb-true, reverse-reverse, CallId, Occurrence, Coming, answer_of, call_entry, came, entry, entry_by, own_events, record_deadlines, record_of, AllAnswered, AnswersCall, failed, joined, HasAnswered, IsAnswered, nat_tests}
+use Rattle.gateway_model.specs.Occurrence.{Result}
 use Rattle.gateway_model.specs.declared.call_event.CallEvent.{CallEvent}
+use Rattle.connect_codec.specs.Reply.{error_reply}
+use Rattle.connect_codec.specs.declared.answer.Outcome.TheVariants.{Answer}
+use Rattle.gateway_model.specs.declared.entry.ReplyEntry.TheVariants.{Call as Calling}
 use Rattle.gateway_model.specs.declared.call_event.CallEvent.TheVariants.{Answer as Answered, Failed, Expired, BranchExpired, HungUp, Drained}
-use Rattle.gateway_model.specs.declared.id.CallId.{CallId}
-use Rattle.gateway_model.specs.Arrival.{Judged, Asks}
 use Rattle.gateway_model.specs.Branch.{branch_at}
 use Rattle.gateway_model.specs.CallRecord.{CallRecord, answer_in, answer_of_branch, last_event}
 use Rattle.gateway_model.specs.Errors.{branch_error, error_of}
 use Rattle.gateway_model.specs.Decided.{IsDecidedAt}
-use Rattle.gateway_model.specs.Occurrence.{Occurrence, Opening, Comes, HangUp, Moment, Result, Drain, Closing, Coming, Request, Refused, Break}
-use Rattle.gateway_model.specs.Past.{ArrivedCall, Mark, Past, answers, asked_now, branches, call, count_below, counts, deadlines_out, decided, decides, due_by, ends_at_arrival, event_by, is_call, is_shut, is_drained, is_due, mark_of, marked, now, own_event, past_of}
-use Rattle.gateway_model.specs.Queue.{answer_of, call_entry, came, entry, entry_by, own_events, record_deadlines, record_of}
 use Rattle.gateway_theory.specs.Replies.{joined_reply}
 use Rattle.gateway_model.specs.Record.{answers_among, is_decided, is_ending, is_lawful, may_come, may_follow}
 use Rattle.gateway_model.specs.Reply.{reply_of}
-use Rattle.gateway_model.specs.Headline.{AllAnswered, AnswersCall, failed, joined, HasAnswered, IsAnswered}
-use Rattle.gateway_theory.specs.lemmas.Cases.{or_none}
-use Rattle.gateway_theory.specs.lemmas.Deadlines.{expires}
-use Rattle.gateway_theory.specs.lemmas.LimitLemmas.{same_call, count_most}
+use Rattle.gateway_theory.specs.lemmas.LimitLemmas.{count_most}
 use Rattle.gateway_theory.specs.lemmas.RecordLemmas.{among_more as among_behind}
-use Rattle.gateway_theory.specs.lemmas.StandsLemmas.{last_is as last_behind, or_assoc, answer_after as answer_behind}
+use Rattle.gateway_theory.specs.lemmas.StandsLemmas.{last_is as last_behind, answer_after as answer_behind}
 
 -- ---- counts
 
@@ -41,14 +30,7 @@ count_full (suc n) p le i lt = by_last (p n) refl le (λ below. count_full n p b
 
 count_grows : (n : ℕ) (p q : ℕ → Bool) → ((i : ℕ) → p i ≡ true → q i ≡ true) → count_below n p ≤ count_below n q
 count_grows zero p q h = omega arith
-count_grows (suc n) p q h = by_last (p n) (q n) refl refl (count_grows n p q h)
-  where
-    by_last : (a b : Bool) → p n ≡ a → q n ≡ b → count_below n p ≤ count_below n q
-        → (if a then suc (count_below n p) else count_below n p) ≤ (if b then suc (count_below n q) else count_below n q)
-    by_last true true a_is b_is le = omega (arith, le)
-    by_last true false a_is b_is le = absurd (let clash : false ≡ true = sym b_is ∙ h n a_is in cc)
-    by_last false true a_is b_is le = omega (arith, le)
-    by_last false false a_is b_is le = le
+count_grows (suc n) p q h = grind (arith, count_grows n p q h)
 
 -- one more has it
 count_more : (n i : ℕ) (p q : ℕ → Bool) → i < n → p i ≡ false → q i ≡ true → ((j : ℕ) → p j ≡ true → q j ≡ true) → suc (count_below n p) ≤ count_below n q
@@ -168,11 +150,7 @@ last_own id (m ∷ past) e d = by_decided (decided id past) (own_event id m past
 -- ---- the call of an entry
 
 called : (id : CallId) (past : Past) (r : CallRecord) (o : Option (Coming × Bool)) → option_and_then (entry_by id past) o ≡ Some (Calling r) → call_entry id past ≡ Some (Calling r)
-called id past r None e = absurd (cc)
-called id past r (Some (Refused x, crowded)) e = absurd (cc)
-called id past r (Some (Request q (Judged v), crowded)) e = absurd (cc)
-called id past r (Some (Request q (Asks plan timeout rid), true)) e = absurd (cc)
-called id past r (Some (Request q (Asks plan timeout rid), false)) e = e
+called id past r o h4 = grind (arith, nat_tests)
 
 record IsOf (r : CallRecord) (d : Option CallEvent) (c : Option ArrivedCall) (ds : List (Option ℕ)) (es : List CallEvent) : Type 0 where
   asked : ArrivedCall
@@ -183,9 +161,7 @@ record IsOf (r : CallRecord) (d : Option CallEvent) (c : Option ArrivedCall) (ds
 
 is_of : (r : CallRecord) (d : Option CallEvent) (c : Option ArrivedCall) (ds : List (Option ℕ)) (es : List CallEvent)
     → (if is_some d then option_map (λ a. Calling (record_of a ds es)) c else None) ≡ Some (Calling r) → IsOf r d c ds es
-is_of r None c ds es e = absurd (cc)
-is_of r (Some d) None ds es e = absurd (cc)
-is_of r (Some d) (Some c) ds es e = record { asked = c; call_is = refl; record_is = (let same : record_of c ds es ≡ r = cc in sym same); event = d; decided_is = refl }
+is_of r d c ds es h5 = grind (arith, nat_tests)
 
 -- what is known of the definitions
 pub record CallLaws : Type 0 where
@@ -215,75 +191,12 @@ is_answered laws id os r e =
 
 -- ---- where answers come from
 
--- what ends a call as it arrives is no answer
-no_answer : (past : Past) (o : Option ArrivedCall) (i : ℕ) (body : List ℕ) → option_and_then (ends_at_arrival past) o ≡ Some (Answered i body) → ⊥
-no_answer past None i body e = cc
-no_answer past (Some c) i body e = by_tests (is_drained past) (is_due (now past) c.deadline) e
-  where
-    by_tests : (a b : Bool) → (if a then Some Drained else (if b then Some (Expired (now past)) else None)) ≡ Some (Answered i body) → ⊥
-    by_tests true b e = cc
-    by_tests false true e = cc
-    by_tests false false e = cc
-
--- nor is what a moment brings
-no_expiry : (moment : ℕ) (deadline : Option ℕ) (outs : List (Option ℕ)) (i : ℕ) (body : List ℕ) → due_by moment deadline outs ≡ Some (Answered i body) → ⊥
-no_expiry moment deadline outs i body e = ⊎_elim
-    (λ its. let bad : Answered i body ≡ Expired moment = its.0 in cc)
-    (λ its. let bad : Answered i body ≡ BranchExpired its.0 moment = its.1 in cc)
-    (expires moment deadline outs (Answered i body) e)
-
--- an event that is an answer is a result that counted
-answer_by : (id : CallId) (c : ArrivedCall) (o : Occurrence) (counted : Bool) (past : Past) (i : ℕ) (body : List ℕ) → event_by id c o counted past ≡ Some (Answered i body)
-    → (o ≡ Result id i (Answer body)) × (counted ≡ true)
-answer_by id c (Result of j (Answer b)) counted past i body e = by_test (counted && is_call of id) refl e
-  where
-    by_test : (t : Bool) → (counted && is_call of id) ≡ t → (if t then Some (Answered j b) else None) ≡ Some (Answered i body) → (Result of j (Answer b) ≡ Result id i (Answer body)) × (counted ≡ true)
-    by_test true t_is e =
-        let p = and_parts counted (is_call of id) t_is in
-        let same : of ≡ id = same_call of id p.1 in
-        let branch : j ≡ i = cc in
-        let bytes : b ≡ body = cc in
-        (ap (λ x. Result x j (Answer b)) same ∙ ap (λ x. Result id x (Answer b)) branch ∙ ap (λ x. Result id i (Answer x)) bytes, p.0)
-    by_test false t_is e = absurd (cc)
-answer_by id c (Result of j (Fail error)) counted past i body e = by_test (counted && is_call of id) e
-  where
-    by_test : (t : Bool) → (if t then Some (Failed j error) else None) ≡ Some (Answered i body) → (Result of j (Fail error) ≡ Result id i (Answer body)) × (counted ≡ true)
-    by_test true e = absurd (cc)
-    by_test false e = absurd (cc)
-answer_by id c (Moment m) counted past i body e = absurd (no_expiry _ c.deadline (deadlines_out id c.plan past) i body e)
-answer_by id c (HangUp conn) counted past i body e = by_test (conn == id.conn) e
-  where
-    by_test : (t : Bool) → (if t then Some HungUp else None) ≡ Some (Answered i body) → (HangUp conn ≡ Result id i (Answer body)) × (counted ≡ true)
-    by_test true e = absurd (cc)
-    by_test false e = absurd (cc)
-answer_by id c Drain counted past i body e = absurd (cc)
-answer_by id c Opening counted past i body e = absurd (cc)
-answer_by id c (Comes conn x) counted past i body e = absurd (cc)
-answer_by id c (Closing conn) counted past i body e = absurd (cc)
-answer_by id c (Break conn) counted past i body e = absurd (cc)
-
 own_answer : (id : CallId) (m : Mark) (past : Past) (i : ℕ) (body : List ℕ) → own_event id m past ≡ Some (Answered i body)
     → (m.what ≡ Result id i (Answer body)) × (m.counted ≡ true)
-own_answer id m past i body e = by_closed (is_shut id.conn past) (call id past) e
-  where
-    by_closed : (b : Bool) (o : Option ArrivedCall)
-        → (if b then None else option_map_or (λ c. event_by id c m.what m.counted past) o (option_and_then (ends_at_arrival past) (asked_now id m past))) ≡ Some (Answered i body)
-        → (m.what ≡ Result id i (Answer body)) × (m.counted ≡ true)
-    by_closed true o e = absurd (cc)
-    by_closed false None e = absurd (no_answer past (asked_now id m past) i body e)
-    by_closed false (Some c) e = answer_by id c m.what m.counted past i body e
+own_answer id m past i body e = search arith
 
 answer_is : (i : ℕ) (e : CallEvent) (body : List ℕ) → answer_in i e ≡ Some body → e ≡ Answered i body
-answer_is i (Answered j b) body e = by_test (j == i) refl e
-  where
-    by_test : (t : Bool) → (j == i) ≡ t → (if t then Some b else None) ≡ Some body → Answered j b ≡ Answered i body
-    by_test true t_is e = let bytes : b ≡ body = cc in ap (λ x. Answered x b) (eqb-true j i t_is) ∙ ap (λ x. Answered i x) bytes
-    by_test false t_is e = absurd (cc)
-answer_is i (Failed j error) body e = absurd (cc)
-answer_is i (Expired t) body e = absurd (cc)
-answer_is i (BranchExpired j t) body e = absurd (cc)
-answer_is i HungUp body e = absurd (cc)
-answer_is i Drained body e = absurd (cc)
+answer_is i e body h3 = grind (arith, nat_tests)
 
 one_later : (id : CallId) (i : ℕ) (body : List ℕ) (o : Occurrence) (os : List Occurrence) → HasAnswered id i body os → HasAnswered id i body (o ∷ os)
 one_later id i body o os h = record { later = o ∷ h.later; before = h.before; occurred_is = ap (λ xs. o ∷ xs) h.occurred_is; counted = h.counted }

@@ -1,28 +1,12 @@
 -- A connection that was closed: nothing more is queued for it, and it does not break any more.
-use Rattle.gateway_theory.specs.lemmas.Cases.{and_none}
-use Rattle.std.proofs.Common.{◌≡◌, ℕ, zero, suc, ◌<◌, Bool, true, false, List, [], ◌∷◌, ◌++◌, map, length, Option, None, Some, refl, sym, ap, ◌∙◌, subst, arith, ⊎_elim, inl, inr}
-use Rattle.std.specs.Prelude.{⊤, ◌⊎◌, if◌then◌else◌, ◌&&◌, ◌||◌, not, ◌==◌, is_some, is_none, nat_lt, reverse, option_and_then, MatchBool}
-use Rattle.std.specs.Option.{option_map_or}
-use Rattle.std.proofs.lemmas.Bool.{eq-eqb, eqb-true, ne_eqb, lt-ltb}
-use Rattle.std.proofs.lemmas.List.{reverse-append}
-use Rattle.call_plan.specs.Plan.{PlanRecord}
-use Rattle.gateway_model.specs.Breaks.{BreakAsTheyMay, CanBreakAt, MayOccur}
-use Rattle.gateway_model.specs.Concerns.{can_break, concerns, decided_by}
-use Rattle.gateway_model.specs.Events.{Before, Gains, OccursAt, connections, hung_up, is_closing_of, is_open, listens, once, stream, succeeds}
-use Rattle.gateway_model.specs.declared.event.Event.{Event}
-use Rattle.gateway_model.specs.declared.event.Event.TheVariants as events
-use Rattle.gateway_model.specs.declared.id.CallId.{CallId}
-use Rattle.gateway_model.specs.Occurrence.{Coming, Occurrence, Opening, Comes, HangUp, Moment, Result, Drain, Closing, Break}
-use Rattle.gateway_model.specs.Own.{is_break, without_breaks}
-use Rattle.gateway_model.specs.Past.{ArrivedCall, Mark, Past, answers, arrivals, asked_by, asked_now, branches, breaks, call, call_id, can_be_decided, coming_on, count_below, counts, decided, decides, deciding, ends_at_arrival, event_by, is_broken, is_out, is_shut, is_undecided, mark_of, marked, now, own_event, shuts}
-use Rattle.gateway_model.specs.declared.call_event.CallEvent.{CallEvent}
-use Rattle.gateway_model.specs.Queue.{queued_entries}
-use Rattle.gateway_model.specs.Starts.{Placed, occurrences}
+use Rattle.gateway_run.proofs.Names.{and_none, ◌≡◌, ℕ, zero, suc, Bool, true, false, List, [], ◌∷◌, ◌++◌, map, length, None, Some, refl, sym, ap, ◌∙◌, subst, arith, ⊎_elim, reverse, ⊤, ◌⊎◌, if◌then◌else◌, ◌&&◌, ◌||◌, not, ◌==◌, nat_lt, eqb-true, ne_eqb, reverse-append, PlanRecord, Before, OccursAt, is_open, listens, once, Event, Coming, Occurrence, Comes, Break, is_break, without_breaks, Past, breaks, coming_on, count_below, is_broken, is_shut, mark_of, marked, queued_entries, Placed, occurrences, Still, still_queue, nat_tests}
+use Rattle.gateway_model.specs.Occurrence.{Opening, HangUp, Moment, Result, Drain, Closing}
+use Rattle.gateway_model.specs.Breaks.{BreakAsTheyMay}
+use Rattle.gateway_model.specs.Concerns.{can_break, decided_by}
 use Rattle.gateway_theory.specs.Core.{at_place}
 use Rattle.gateway_theory.specs.lemmas.Adding.{occurrences_at}
-use Rattle.gateway_theory.specs.lemmas.OwnLemmas.{none_if}
-use Rattle.gateway_theory.specs.lemmas.PrefixLemmas.{Still, at_break, still_queue}
 use Rattle.gateway_theory.specs.lemmas.ServedJoins.{last_event}
+use Rattle.gateway_model.specs.declared.event.Event.TheVariants as events
 
 -- ---- each of a list
 
@@ -44,11 +28,7 @@ OrBreak Q o = (is_break o ≡ true) ⊎ Q o
 
 each_newer : (Q : Occurrence → Type 0) (newer : List Occurrence) → Each Q (without_breaks newer) → Each (OrBreak Q) newer
 each_newer Q [] a = tt
-each_newer Q (o ∷ newer) a = by (is_break o) refl a (each_newer Q newer)
-  where
-    by : (b : Bool) → is_break o ≡ b → Each Q (if not b then o ∷ without_breaks newer else without_breaks newer) → (Each Q (without_breaks newer) → Each (OrBreak Q) newer) → Each (OrBreak Q) (o ∷ newer)
-    by true e a rest = (inl e, rest a)
-    by false e a rest = (inr a.0, rest a.1)
+each_newer Q (o ∷ newer) a = grind (arith, each_newer Q newer)
 
 -- ---- what leaves a connection as it is
 
@@ -75,30 +55,10 @@ passes_break c (Closing d) e b = refl
 
 -- at a closing nothing happens to a call
 at_closing : (c d : ℕ) (past : Past) → Still c (mark_of past (Closing d)) past
-at_closing c d past = record {
-  none_comes = refl;
-  no_event = λ k. by (λ a. event_by (call_id c k) a (Closing d) (counts (Closing d) past) past) (λ a. refl) (is_shut c past) (call (call_id c k) past)
-      (option_and_then (ends_at_arrival past) (asked_now (call_id c k) (mark_of past (Closing d)) past)) (not_asked k);
-}
-  where
-    not_asked : (k : ℕ) → option_and_then (ends_at_arrival past) (asked_now (call_id c k) (mark_of past (Closing d)) past) ≡ None
-    not_asked k = ap (λ o. option_and_then (ends_at_arrival past) (option_and_then (asked_by (now past)) o)) (none_if (arrivals c past == k) None refl)
-
-    by : (f : ArrivedCall → Option CallEvent) → ((a : ArrivedCall) → f a ≡ None) → (b : Bool) (o : Option ArrivedCall) (e : Option CallEvent) → e ≡ None
-        → (if b then None else option_map_or f o e) ≡ None
-    by f h true o e n = refl
-    by f h false None e n = n
-    by f h false (Some a) e n = h a
+at_closing c d past = grind arith
 
 at_any_break : (c : ℕ) (o : Occurrence) (past : Past) → is_break o ≡ true → Still c (mark_of past o) past
-at_any_break c (Break d) past e = at_break c d past
-at_any_break c Opening past e = absurd (cc)
-at_any_break c (Comes d x) past e = absurd (cc)
-at_any_break c (HangUp d) past e = absurd (cc)
-at_any_break c (Moment m) past e = absurd (cc)
-at_any_break c (Result id i r) past e = absurd (cc)
-at_any_break c Drain past e = absurd (cc)
-at_any_break c (Closing d) past e = absurd (cc)
+at_any_break c o past h3 = grind (arith, nat_tests)
 
 -- the newer ones leave the connection as it is: nothing happens to it, and it does not break
 abbrev pub AllStill : ℕ → List Occurrence → List Occurrence → Type 0
@@ -115,11 +75,7 @@ broken_stays c (o ∷ newer) os h = ap (λ b. b || is_broken c (marked (newer ++
 
 shut_stays : (c : ℕ) (newer os : List Occurrence) → is_shut c (marked os) ≡ true → is_shut c (marked (newer ++ os)) ≡ true
 shut_stays c [] os e = e
-shut_stays c (o ∷ newer) os e = ap (λ b. shuts c o || b) (shut_stays c newer os e) ∙ yes (shuts c o)
-  where
-    yes : (b : Bool) → (b || true) ≡ true
-    yes true = refl
-    yes false = refl
+shut_stays c (o ∷ newer) os e = grind (arith, shut_stays c newer os e)
 
 -- ---- what occurs at an event
 
@@ -133,19 +89,7 @@ once_passes Q false o q = tt
 
 -- of one that is not open nothing comes
 event_passes : (plans : List PlanRecord) (opened : List ℕ) (c : ℕ) (e : Event) (es : Before) (os : List Occurrence) → OccursAt plans opened e es os → is_open opened c es ≡ false → Each (Passes c) os
-event_passes plans opened c events.Opening es os at off = subst (Each (Passes c)) (sym at) (once_passes (Passes c) (succeeds opened (length es)) Opening (λ b. refl))
-event_passes plans opened c (events.Piece d bytes) es os at off = by_listens (listens opened d es) refl at
-  where
-    by_listens : (b : Bool) → listens opened d es ≡ b
-        → MatchBool b ((gained : List Coming) × Gains plans (stream opened d es) (stream opened d es ++ bytes) gained × (os ≡ map (Comes d) gained)) (os ≡ []) → Each (Passes c) os
-    by_listens true on (gained, gains, is) = subst (Each (Passes c)) (sym is) (comings_pass c d gained
-        (ne_eqb d c (λ same. let clash : false ≡ true = sym (ap (λ b. b && not (hung_up opened d es)) (ap (λ n. is_open opened n es) same ∙ off)) ∙ on in absurd (cc))))
-    by_listens false on is = subst (Each (Passes c)) (sym is) tt
-event_passes plans opened c (events.HangUp d) es os at off = subst (Each (Passes c)) (sym at) (once_passes (Passes c) (listens opened d es) (HangUp d) (λ b. refl))
-event_passes plans opened c (events.Moment m) es os at off = subst (Each (Passes c)) (sym at) (λ b. refl, tt)
-event_passes plans opened c (events.BranchResult d k i r) es os at off = subst (Each (Passes c)) (sym at) (λ b. refl, tt)
-event_passes plans opened c events.Drain es os at off = subst (Each (Passes c)) (sym at) (λ b. refl, tt)
-event_passes plans opened c (events.Closing d) es os at off = subst (Each (Passes c)) (sym at) (once_passes (Passes c) (is_open opened d es) (Closing d) (λ b. refl))
+event_passes plans opened c e es os h6 h7 = grind (arith, nat_tests, once_passes, comings_pass, ne_eqb)
 
 -- ---- it does not break
 
@@ -154,43 +98,15 @@ none_decided zero p h = refl
 none_decided (suc n) p h = ap (λ b. if b then suc (count_below n p) else count_below n p) (h n) ∙ none_decided n p h
 
 undecided_none : (c : ℕ) (o : Occurrence) (past : Past) → is_shut c past ≡ true → nat_lt 0 (decided_by c o past) ≡ false
-undecided_none c o past shut = ap (λ n. nat_lt 0 n) (none_decided (arrivals c past) (λ k. is_undecided (call_id c k) past && is_some (deciding (call_id c k) (mark_of past o) past)) none)
-  where
-    no_event : (k : ℕ) → own_event (call_id c k) (mark_of past o) past ≡ None
-    no_event k = rw shut refl
-
-    none : (k : ℕ) → (is_undecided (call_id c k) past && is_some (deciding (call_id c k) (mark_of past o) past)) ≡ false
-    none k = ap (λ x. is_undecided (call_id c k) past && is_some (option_and_then (λ e. if decides (answers (call_id c k) past) (branches (call_id c k) past) e then Some e else None) x)) (no_event k)
-        ∙ off (is_undecided (call_id c k) past)
-      where
-        off : (b : Bool) → (b && false) ≡ false
-        off true = refl
-        off false = refl
+undecided_none c o past shut = grind (arith, nat_tests, none_decided)
 
 -- of one that is not open no piece is taken
 not_listening : (opened : List ℕ) (c d : ℕ) (es : Before) → is_open opened c es ≡ false → ((c == d) && listens opened d es) ≡ true → ⊥
-not_listening opened c d es off can = by (c == d) refl can
-  where
-    by : (b : Bool) → (c == d) ≡ b → (b && listens opened d es) ≡ true → ⊥
-    by false e x = cc
-    by true e x =
-        let clash : true ≡ false = sym x ∙ ap (λ b. b && not (hung_up opened d es)) (ap (λ n. is_open opened n es) (sym (eqb-true c d e)) ∙ off) in cc
+not_listening opened c d es off can = grind arith
 
 -- a connection that is shut and not open can't break by an event
 can_not : (opened : List ℕ) (c : ℕ) (e : Event) (es : Before) (past : Past) → is_open opened c es ≡ false → is_shut c past ≡ true → can_break c opened e es past ≡ true → ⊥
-can_not opened c events.Opening es past off shut can = cc
-can_not opened c (events.Piece d bytes) es past off shut can = not_listening opened c d es off can
-can_not opened c (events.HangUp d) es past off shut can = not_listening opened c d es off can
-can_not opened c (events.Moment m) es past off shut can = let clash : true ≡ false = sym can ∙ undecided_none c (Moment m) past shut in cc
-can_not opened c (events.BranchResult d k i r) es past off shut can = by_conn (d == c) refl can
-  where
-    by_conn : (b : Bool) → (d == c) ≡ b → (b && counts (Result (call_id d k) i r) past) ≡ true → ⊥
-    by_conn false e x = cc
-    by_conn true e x =
-        let gone : is_shut d past ≡ true = ap (λ n. is_shut n past) (eqb-true d c e) ∙ shut in
-        let clash : true ≡ false = sym x ∙ ap (λ b. is_out (call_id d k) i past && (is_none (decided (call_id d k) past) && not b)) gone ∙ and_none (is_out (call_id d k) i past) (is_none (decided (call_id d k) past)) in cc
-can_not opened c events.Drain es past off shut can = let clash : true ≡ false = sym can ∙ undecided_none c Drain past shut in cc
-can_not opened c (events.Closing d) es past off shut can = cc
+can_not opened c e es past h5 h6 h7 = grind (arith, nat_tests, not_listening, undecided_none, eqb-true, and_none)
 
 -- ---- the event
 
@@ -200,30 +116,7 @@ none_breaks : (opened : List ℕ) (c : ℕ) (e : Event) (es : Before) (newer : L
     → ((us : List Occurrence) → can_break c opened e es (marked (us ++ occurrences lived)) ≡ true → ⊥)
     → Each (λ o. breaks c o ≡ false) newer
 none_breaks opened c e es [] lived b can = tt
-none_breaks opened c e es (o ∷ newer) lived b can = (one o b.0, none_breaks opened c e es newer lived b.1 can)
-  where
-    never : (x : Occurrence) → MayOccur opened (e ∷ es) (length es) x (marked (occurrences (at_place (length es) newer ++ lived))) → breaks c x ≡ true → ⊥
-    never (Break d) may its =
-        let same : d ≡ c = eqb-true d c its in
-        let at = last_event e es may.later may.event may.before may.events_are may.place_is in
-        can newer (ap (λ n. can_break n opened e es (marked (newer ++ occurrences lived))) (sym same)
-        ∙ ap (λ us. can_break d opened e es (marked us)) (sym (occurrences_at (length es) newer lived))
-        ∙ sym (ap (λ f. can_break d opened f may.before (marked (occurrences (at_place (length es) newer ++ lived)))) at.0
-        ∙ ap (λ fs. can_break d opened e fs (marked (occurrences (at_place (length es) newer ++ lived)))) at.1) ∙ may.can)
-    never Opening may its = cc
-    never (Comes d x) may its = cc
-    never (HangUp d) may its = cc
-    never (Moment m) may its = cc
-    never (Result id i r) may its = cc
-    never Drain may its = cc
-    never (Closing d) may its = cc
-
-    one : (x : Occurrence) → MayOccur opened (e ∷ es) (length es) x (marked (occurrences (at_place (length es) newer ++ lived))) → breaks c x ≡ false
-    one x may = by (breaks c x) refl
-      where
-        by : (b : Bool) → breaks c x ≡ b → breaks c x ≡ false
-        by false h = h
-        by true h = absurd (never x may h)
+none_breaks opened c e es (o ∷ newer) lived b can = search (arith, nat_tests, none_breaks opened c e es newer lived b.1 can, eqb-true, last_event, occurrences_at)
 
 module _ (plans : List PlanRecord) (opened : List ℕ) (c : ℕ) (e : Event) (es : Before) (newer os : List Occurrence) (lived : List Placed)
     (at : OccursAt plans opened e es os) (same : without_breaks newer ≡ reverse os) (may : BreakAsTheyMay opened (e ∷ es) (at_place (length es) newer ++ lived)) where

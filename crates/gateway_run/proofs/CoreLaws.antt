@@ -1,8 +1,5 @@
 -- What is known of the core's definitions and of what it stands for: the laws of the crate below that the proofs of a run use.
-use Rattle.std.specs.Prelude.{◌≡◌, ◌↔◌, ℕ, ◌<◌, ◌≤◌, true, List, [], ◌∷◌, ◌++◌, length}
-use Rattle.call_plan.specs.Plan.{PlanRecord}
-use Rattle.gateway_model.specs.Events.{Before, Occurs, connections, is_open, open_connections, succeeds}
-use Rattle.gateway_model.specs.Starts.{Placed}
+use Rattle.gateway_run.proofs.Names.{◌≡◌, ℕ, ◌<◌, ◌≤◌, true, List, [], ◌∷◌, ◌++◌, length, ◌↔◌, PlanRecord, Before, Occurs, connections, is_open, open_connections, succeeds, Placed}
 
 -- one more opening that succeeds, behind some events and all others that do, changes nothing of what these come to
 pub record OpeningsLaws : Type 0 where

@@ -1,12 +1,8 @@
 -- How a loop over the entries of a script reads them one by one.
-use Rattle.std.proofs.Common.{◌≡◌, ℕ, suc, ◌+◌, ◌<◌, List, [], ◌∷◌, ◌++◌, length, get_or, drop, Some, Result, Ok, Err, refl, sym, ◌∙◌, ap, append_assoc, add-one, drop-cons}
-use Rattle.std.specs.Option.{option_map_or}
+use Rattle.gateway_run.proofs.Names.{◌≡◌, ℕ, suc, ◌+◌, ◌<◌, List, [], ◌∷◌, ◌++◌, length, get_or, drop, Some, Result, Ok, Err, refl, sym, ◌∙◌, ap, append_assoc, add-one, drop-cons, option_map_or, view, items_view, Event, event_of, events_from, then_events}
 use Rattle.serde_json.specs.declared.value.Value.{Value}
-use Rattle.serde_json.specs.View.{view, items_view}
-use Rattle.gateway_model.specs.declared.event.Event.{Event}
 use Rattle.gateway_run.specs.declared.fault.ScriptError.{ScriptError}
 use Rattle.gateway_run.specs.declared.fault.ScriptError.TheVariants.{BadEvent}
-use Rattle.gateway_run.specs.Script.{event_of, events_from, then_events}
 
 -- what was read so far, and what the rest gives
 abbrev pub before : List Event → Result (List Event) ScriptError → Result (List Event) ScriptError

@@ -1,50 +1,16 @@
 -- A run with one event more, by what the step and the log make of it.
-use Rattle.std.proofs.Common.{◌≡◌, ℕ, suc, ◌+◌, ◌<◌, ◌≤◌, Bool, true, false, List, [], ◌∷◌, ◌++◌, length, map, refl, sym, ap, ◌∙◌, subst, arith, ⊎_elim}
-use Rattle.std.specs.Prelude.{if◌then◌else◌, ◌||◌, ◌==◌}
-use Rattle.std.proofs.lemmas.Bool.{cases_Bool, eq-eqb, eqb-true, ne_eqb}
-use Rattle.std.proofs.lemmas.List.{length-append}
-use Rattle.gateway_model.specs.declared.entry.ReplyEntry.{ReplyEntry}
-use Rattle.gateway_model.specs.Events.{Before, IsOpened, IsRising, OpensAt, connections, is_closing_of, most_open, open_connections, succeeds}
-use Rattle.gateway_model.specs.declared.event.Event.TheVariants.{Closing, Opening}
-use Rattle.gateway_model.specs.declared.event.Event.{Event}
-use Rattle.gateway_model.specs.declared.event.Event.TheVariants as events
-use Rattle.gateway_theory.specs.Values.{GatewayValue}
-use Rattle.gateway_model.specs.Job.{JobValue}
-use Rattle.gateway_theory.specs.Served.{Adds, HasConns, Served}
-use Rattle.gateway_model.specs.declared.seen.Seen.{Seen}
-use Rattle.gateway_model.specs.History.{History, history_of}
-use Rattle.gateway_theory.specs.Serving.{KeepsBut}
-use Rattle.gateway_theory.specs.Starting.{job_started}
-use Rattle.gateway_run.specs.Log.{HasRun, LogValue, StartsAll}
-use Rattle.gateway_run.specs.Stepping.{AddsStep, CollectsFor, after_step, log_after, opened_by}
+use Rattle.gateway_run.proofs.Names.{◌≡◌, ℕ, suc, ◌+◌, ◌<◌, ◌≤◌, Bool, true, false, List, [], ◌∷◌, ◌++◌, length, map, refl, sym, ap, ◌∙◌, subst, arith, if◌then◌else◌, ◌||◌, ◌==◌, eq-eqb, eqb-true, length-append, ReplyEntry, Before, IsOpened, IsRising, OpensAt, connections, is_closing_of, most_open, open_connections, succeeds, Closing, Opening, Event, GatewayValue, JobValue, Adds, HasConns, Served, Seen, History, history_of, KeepsBut, job_started, HasRun, LogValue, StartsAll, AddsStep, CollectsFor, after_step, log_after, opened_by, Done, Opened, NotOpened, Saw, Fault, Broke, sym_eqb as turned, nat_tests}
 use Rattle.gateway_run.specs.declared.stepping.Stepped.{Stepped}
-use Rattle.gateway_run.specs.declared.stepping.Stepped.TheVariants.{Done, Opened, NotOpened, Saw, Fault, Broke}
 use Rattle.gateway_run.proofs.Flags.{more_default}
 use Rattle.gateway_run.proofs.CoreLaws.{OpeningsLaws}
 use Rattle.gateway_run.proofs.Gathering.{collected_run}
 use Rattle.gateway_run.proofs.RunSteps.{Steps, run_on}
 use Rattle.gateway_theory.specs.lemmas.ServedOpens.{succeeds_more}
-use Rattle.gateway_theory.specs.lemmas.Cases.{sym_eqb as turned}
+use Rattle.gateway_model.specs.declared.event.Event.TheVariants as events
 
 -- the same connections were gathered
 pub same_gathered : (f g : ℕ → Bool) (v : GatewayValue) (log : LogValue) (es : Before) → ((c : ℕ) → f c ≡ g c) → HasRun f v log es → HasRun g v log es
-same_gathered f g v log es same h = record {
-  taken = h.taken;
-  started = h.started;
-  served = h.served;
-  no_jobs = h.no_jobs;
-  opened_are = h.opened_are;
-  opened_size = h.opened_size;
-  queued_size = h.queued_size;
-  broke_size = h.broke_size;
-  starts_are = h.starts_are;
-  jobs_are = h.jobs_are;
-  queued_are = h.queued_are;
-  unflagged = λ c off. h.unflagged c (same c ∙ off);
-  flagged = λ c on. h.flagged c (same c ∙ on);
-  none_left = λ c on. h.none_left c (same c ∙ on);
-  has_lived = h.has_lived;
-}
+same_gathered f g v log es same h = grind arith
 
 -- what is queued for the connection that the event closes was taken
 collected_for : (e : Event) (v w : GatewayValue) (log later : LogValue) (es : Before) → HasRun (λ c. false) v log es → CollectsFor e v w log later
@@ -88,16 +54,7 @@ module _ (e : Event) (es : Before) (v w : GatewayValue) (opened : List ℕ) wher
   steps_on : {seen : List Seen} → ((taken : ℕ → List ReplyEntry) (handed : List JobValue) → Served v (history_of opened es taken handed) → Served w (history_of opened (e ∷ es) taken handed))
       → ((taken : ℕ → List ReplyEntry) (handed : List JobValue) → Adds opened e (history_of opened es taken handed) v w)
       → KeepsBut (λ c. is_closing_of c e) (λ c. true) seen v w → Steps e es v w opened opened
-  steps_on {seen} served adds keeps = record {
-    served = served;
-    adds = adds;
-    seen = seen;
-    keeps = keeps;
-    opened_are = λ o h. record { rising = o.rising; openings = λ place its. opens_later opened e es place (o.openings place its) };
-    same_count = λ h. refl;
-    same_open = λ h c. refl;
-    before = λ occurred h o. o;
-  }
+  steps_on {seen} served adds keeps = grind (arith, nat_tests, opens_later)
 
   -- one did
   steps_open : {seen : List Seen} → OpeningsLaws → e ≡ Opening → open_connections opened es < most_open

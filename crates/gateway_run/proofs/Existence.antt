@@ -1,15 +1,6 @@
 -- Every list of events comes to occurrences: not to none.
-use Rattle.std.proofs.Common.{◌≡◌, ℕ, ◌+◌, Bool, true, false, List, [], ◌∷◌, ◌++◌, map, length, refl, sym, subst, append-nil}
-use Rattle.std.specs.Prelude.{MatchBool}
+use Rattle.gateway_run.proofs.Names.{◌≡◌, ℕ, ◌+◌, Bool, true, false, List, [], ◌∷◌, ◌++◌, map, length, refl, sym, subst, append-nil, MatchBool, HttpRequest, StreamEnd, Open, RefusedBy, Closed, Requests, PlanRecord, Occurrence, Coming, Comes, Placed, Event, Opening, Piece, HangUp, Moment, BranchResult, Drain, Closing, Before, listens, stream, Gains, requests_gained, refusal_gained, OccursAt, Occurs, onto}
 use Rattle.http_pieces.specs.declared.refusal.Refusal.{Refusal}
-use Rattle.http_pieces.specs.Request.{HttpRequest}
-use Rattle.http_pieces.specs.Requests.{StreamEnd, Open, RefusedBy, Closed, Requests}
-use Rattle.call_plan.specs.Plan.{PlanRecord}
-use Rattle.gateway_model.specs.Occurrence.{Occurrence, Coming, Comes}
-use Rattle.gateway_model.specs.Starts.{Placed}
-use Rattle.gateway_model.specs.declared.event.Event.{Event}
-use Rattle.gateway_model.specs.declared.event.Event.TheVariants.{Opening, Piece, HangUp, Moment, BranchResult, Drain, Closing}
-use Rattle.gateway_model.specs.Events.{Before, listens, stream, Gains, requests_gained, refusal_gained, OccursAt, Occurs, onto}
 
 -- what is known of requests
 pub record RequestLaws : Type 0 where

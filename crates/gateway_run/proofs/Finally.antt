@@ -1,32 +1,10 @@
 -- What a run comes to once all its events were taken and all that is queued was gathered.
-use Rattle.std.proofs.Common.{◌≡◌, ℕ, zero, suc, ◌+◌, ◌<◌, ◌≤◌, Bool, true, false, List, [], ◌∷◌, ◌++◌, append-nil, length, map, Option, None, Some, Result, Ok, Err, refl, sym, ap, ◌∙◌, subst, arith, ⊎_elim}
-use Rattle.std.specs.Prelude.{OnOk, ◌||◌, ◌==◌, filter, is_some, nat_lt, slice_index_or}
-use Rattle.std.specs.List.{range_with_len}
-use Rattle.std.proofs.lemmas.Bool.{cases_Bool, cases_lt, eq-eqb, eqb-true, lt-ltb, le-ltb, ltb-true, ltb-false}
-use Rattle.call_plan.specs.Plan.{PlanRecord}
-use Rattle.gateway_model.specs.Events.{Before, IsRising, Occurs}
-use Rattle.gateway_model.specs.declared.event.Event.TheVariants.{Closing, Opening}
-use Rattle.gateway_model.specs.declared.event.Event.{Event}
-use Rattle.gateway_model.specs.declared.event.Event.TheVariants as events
-use Rattle.gateway_theory.specs.Gateway.{is_broken_conn, is_open_conn}
-use Rattle.gateway_theory.specs.Values.{GatewayValue}
-use Rattle.gateway_model.specs.Breaks.{by_events}
-use Rattle.gateway_model.specs.Past.{is_broken, marked}
-use Rattle.gateway_model.specs.Queue.{queued, queued_entries}
-use Rattle.gateway_theory.specs.Served.{Lives, Served}
-use Rattle.gateway_model.specs.Starts.{Placed, occurrences, starts}
-use Rattle.gateway_run.specs.Log.{Collects, absent, gathers, HasLived, HasRun, LogValue, flag_at, log_value, queue_at}
-use Rattle.gateway_model.specs.Run.{IsLived, bytes_of, is_listed, is_start_of, run_start, starts_of}
-use Rattle.gateway_model.specs.History.{History, history_of, no_history}
-use Rattle.gateway_theory.specs.Starting.{job_started}
+use Rattle.gateway_run.proofs.Names.{◌≡◌, ℕ, zero, suc, ◌+◌, ◌<◌, ◌≤◌, Bool, true, false, List, [], ◌∷◌, ◌++◌, append-nil, length, map, Result, Ok, Err, refl, sym, ap, ◌∙◌, subst, arith, ⊎_elim, OnOk, ◌||◌, ◌==◌, filter, nat_lt, slice_index_or, range_with_len, cases_lt, ltb-true, ltb-false, PlanRecord, Before, IsRising, Occurs, Event, is_open_conn, GatewayValue, is_broken, marked, queued, queued_entries, Lives, Served, Placed, occurrences, starts, Collects, absent, gathers, HasLived, HasRun, LogValue, flag_at, log_value, queue_at, IsLived, bytes_of, is_listed, is_start_of, run_start, starts_of, History, history_of, no_history, job_started, CollectsFor, events_occur, nat_tests}
+use Rattle.gateway_theory.specs.lemmas.OwnLemmas.{unbroken_queue}
 use Rattle.gateway_run.specs.Running.{IsRun}
-use Rattle.gateway_run.specs.Stepping.{CollectsFor}
 use Rattle.gateway_run.proofs.Flags.{beyond, run_starts_on, same_starts}
 use Rattle.gateway_run.proofs.WholeLemmas.{filter_rising, listed_at, listed_below}
-use Rattle.gateway_theory.specs.lemmas.CutLemmas.{open_known}
 use Rattle.gateway_theory.specs.lemmas.Laws.{broken_lived, queue_lived, unopened_unbroken}
-use Rattle.gateway_theory.specs.lemmas.OwnLemmas.{unbroken_queue}
-use Rattle.gateway_theory.specs.lemmas.PrefixLemmas.{broken_shut, events_occur}
 
 pub on_then : {X E : Type 0} {A B : Type 0} (r : Result X E) → OnOk r A → (A → B) → OnOk r B
 on_then (Ok x) a f = f a
@@ -43,25 +21,10 @@ collects_opened n v w log later (absent out w_is later_is) = ap (λ (x : LogValu
 collects_opened n v w log later (gathers lt t later_is) = ap (λ (x : LogValue). x.opened) later_is
 
 pub collects_for_plans : (e : Event) (v w : GatewayValue) (log later : LogValue) → CollectsFor e v w log later → w.plans ≡ v.plans
-collects_for_plans (Closing n) v w log later x = collects_plans n v w log later x
-collects_for_plans Opening v w log later x = ap (λ (y : GatewayValue). y.plans) x.0
-collects_for_plans (events.Piece n bytes) v w log later x = ap (λ (y : GatewayValue). y.plans) x.0
-collects_for_plans (events.HangUp n) v w log later x = ap (λ (y : GatewayValue). y.plans) x.0
-collects_for_plans (events.Moment m) v w log later x = ap (λ (y : GatewayValue). y.plans) x.0
-collects_for_plans (events.BranchResult n k i r) v w log later x = ap (λ (y : GatewayValue). y.plans) x.0
-collects_for_plans events.Drain v w log later x = ap (λ (y : GatewayValue). y.plans) x.0
+collects_for_plans e v w log later h5 = grind (arith, nat_tests)
 
 pub below_next : (c n : ℕ) → (nat_lt c n || c == n) ≡ nat_lt c (n + 1)
-below_next c n = ⊎_elim
-    (λ (lt : nat_lt c n ≡ true). ap (λ b. b || c == n) lt ∙ sym (lt-ltb c (n + 1) (let x = ltb-true c n lt in omega (arith, x))))
-    (λ (ge : nat_lt c n ≡ false). ap (λ b. b || c == n) ge ∙ ⊎_elim
-    (λ (same : (c == n) ≡ true). same ∙ sym (lt-ltb c (n + 1) (let x = eqb-true c n same in omega (arith, x))))
-    (λ (other : (c == n) ≡ false). other ∙ sym (le-ltb c (n + 1) (above (ltb-false c n ge) (λ at. let clash : true ≡ false = sym (eq-eqb c n at) ∙ other in cc)))) (cases_Bool (c == n)))
-    (cases_Bool (nat_lt c n))
-  where
-    above : n ≤ c → (c ≡ n → ⊥) → n + 1 ≤ c
-    above le ne = ⊎_elim (λ (lt : nat_lt n c ≡ true). let x = ltb-true n c lt in omega (arith, x))
-        (λ (ge : nat_lt n c ≡ false). absurd (ne (let x = ltb-false n c ge in omega (arith, x, le)))) (cases_Bool (nat_lt n c))
+below_next c n = grind arith
 
 pub at_default : {A : Type 0} (xs : List A) (n : ℕ) (x d : A) → n < length xs → x ≡ slice_index_or xs n x → slice_index_or xs n d ≡ x
 at_default [] n x d lt e = absurd (omega (arith, lt))
@@ -103,22 +66,10 @@ module _ (count : ℕ) (v : GatewayValue) (log : LogValue) (es : Before) (broken
   sizes = h.broke_size ∙ sym h.opened_size ∙ count_is
 
   flag_is : (c : ℕ) → is_listed c broken ≡ flag_at c log
-  flag_is c = ⊎_elim
-      (λ (lt : nat_lt c (length log.broke) ≡ true). ap (is_listed c) broken_is ∙ listed_at (λ n. slice_index_or log.broke n false) 0 (length log.broke) c (omega arith) (let x = ltb-true c (length log.broke) lt in omega (arith, x)))
-      (λ (ge : nat_lt c (length log.broke) ≡ false).
-      unlisted (is_listed c broken) refl (ltb-false c (length log.broke) ge) ∙ sym (beyond log.broke c false (ltb-false c (length log.broke) ge)))
-      (cases_Bool (nat_lt c (length log.broke)))
-    where
-      unlisted : (b : Bool) → is_listed c broken ≡ b → length log.broke ≤ c → is_listed c broken ≡ false
-      unlisted false e ge = e
-      unlisted true e ge = absurd (
-          let lt = listed_below (λ n. slice_index_or log.broke n false) 0 (length log.broke) c (sym (ap (is_listed c) broken_is) ∙ e) in omega (arith, lt, ge))
+  flag_is c = grind (arith, nat_tests, listed_at, ltb-true, ltb-false, beyond, listed_below)
 
   open_below : (c : ℕ) → is_open_conn c v ≡ true → nat_lt c count ≡ true
-  open_below c there = lt-ltb c count (
-      let lt = open_known log.opened c es ((h.served.conns.each c).open_is ∙ there) in
-      let n = h.served.conns.count_is in
-      let m = h.opened_size in omega (arith, lt, n, m, count_is))
+  open_below c there = grind arith
 
   module _ (occurred : List Placed) (o : Occurs v.plans log.opened es occurred) where
     abbrev was : HasLived v log es h.taken h.started occurred
@@ -149,18 +100,7 @@ module _ (count : ℕ) (v : GatewayValue) (log : LogValue) (es : Before) (broken
     starts_all = h.starts_are ∙ ap (map run_start) was.starts_lived
 
     run_lived : (lived : List Placed) × IsLived log.opened log.queued log.starts log.jobs broken es occurred lived
-    run_lived = (
-      was.lived,
-      record {
-        same = was.same;
-        in_order = was.lives.in_order;
-        breaks = was.lives.breaks;
-        broken_are = λ c. flag_is c ∙ flag_lived c;
-        queued_are = queue_all;
-        starts_are = starts_all;
-        jobs_are = h.jobs_are ∙ ap (map job_started) was.starts_lived;
-      },
-    )
+    run_lived = grind (arith, nat_tests, flag_is, flag_lived, queue_all, starts_all)
 
     -- of one that did not break
     module _ (c : ℕ) (off : is_listed c broken ≡ false) where
@@ -172,9 +112,7 @@ module _ (count : ℕ) (v : GatewayValue) (log : LogValue) (es : Before) (broken
           ∙ ap (λ us. queued_entries c (marked us)) (sym (events_occur was.lived) ∙ ap occurrences was.same))
 
       run_starts : filter (is_start_of c) log.starts ≡ filter (is_start_of c) (starts_of occurred)
-      run_starts =
-          ap (filter (is_start_of c)) starts_all ∙ run_starts_on c (starts was.lived) ∙ ap (map run_start) (same_starts c was.lived whole)
-          ∙ sym (run_starts_on c (starts (by_events was.lived))) ∙ ap (λ xs. filter (is_start_of c) (starts_of xs)) was.same
+      run_starts = grind (arith, nat_tests, starts_all, run_starts_on, same_starts, whole)
 
   run_below : (c : ℕ) → is_listed c broken ≡ true → c < length log.opened
   run_below c e = let lt = listed_below (λ n. slice_index_or log.broke n false) 0 (length log.broke) c (sym (ap (is_listed c) broken_is) ∙ e) in omega (arith, lt, sizes, count_is)
@@ -187,15 +125,4 @@ module _ (count : ℕ) (v : GatewayValue) (log : LogValue) (es : Before) (broken
 
   -- all of it
   pub run_is : (plans : List PlanRecord) → v.plans ≡ plans → IsRun plans es log.opened log.queued log.starts log.jobs broken
-  run_is plans plans_are = record {
-    opened_are = h.opened_are;
-    queued_are = λ occurred o c lt off. run_queued occurred (its occurred o) c off lt;
-    starts_are = λ occurred o c off. run_starts occurred (its occurred o) c off;
-    lived = λ occurred o. run_lived occurred (its occurred o);
-    one_each = run_sizes;
-    known = run_below;
-    rising = run_rising;
-  }
-    where
-      its : (occurred : List Placed) → Occurs plans log.opened es occurred → Occurs v.plans log.opened es occurred
-      its occurred o = subst (λ ps. Occurs ps log.opened es occurred) (sym plans_are) o
+  run_is plans plans_are = grind (arith, nat_tests, run_queued, run_starts, run_lived, run_sizes, run_below, run_rising)

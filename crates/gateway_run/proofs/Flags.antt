@@ -1,21 +1,9 @@
 -- Options, lists by places, and lists that are filtered.
-use Rattle.std.proofs.Common.{◌≡◌, ℕ, zero, suc, ◌<◌, ◌≤◌, Bool, true, false, List, [], ◌∷◌, ◌++◌, length, map, refl, sym, ap, ◌∙◌, arith, append-nil, ⊎_elim}
-use Rattle.std.specs.Prelude.{if◌then◌else◌, ◌||◌, filter, not, slice_index_or, slice_set}
-use Rattle.std.proofs.lemmas.Bool.{cases_Bool, eq-eqb, eqb-true}
-use Rattle.gateway_model.specs.Known.{is_of}
-use Rattle.gateway_model.specs.Job.{JobValue}
+use Rattle.gateway_run.proofs.Names.{◌≡◌, ℕ, zero, suc, ◌<◌, ◌≤◌, Bool, true, false, List, [], ◌∷◌, ◌++◌, length, map, refl, sym, ap, ◌∙◌, arith, append-nil, if◌then◌else◌, ◌||◌, filter, not, slice_index_or, slice_set, JobValue, Occurrence, is_break, without_breaks, breaks, is_broken, mark_of, marked, Placed, jobs, jobs_by, occurrences, starts, append_cancel_left, events_occur, StartedJob, job_started, start, is_start_of, run_start, start_at, nat_tests}
 use Rattle.gateway_model.specs.Breaks.{by_events}
-use Rattle.gateway_model.specs.Occurrence.{Occurrence, Opening, Comes, HangUp, Moment, Result, Drain, Closing, Break}
-use Rattle.gateway_model.specs.Own.{is_break, without_breaks}
-use Rattle.gateway_model.specs.Past.{breaks, is_broken, mark_of, marked}
-use Rattle.gateway_model.specs.Starts.{Placed, jobs, jobs_by, occurrences, starts}
-use Rattle.std.proofs.lemmas.List.{append_cancel_left}
-use Rattle.std.proofs.lemmas.List.Elements.{filter-append}
 use Rattle.gateway_theory.specs.lemmas.OwnLemmas.{unbroken_started}
-use Rattle.gateway_theory.specs.lemmas.PrefixLemmas.{events_occur}
-use Rattle.gateway_theory.specs.Starting.{StartedJob, job_started, start}
-use Rattle.gateway_model.specs.Run.{is_start_of, run_start}
-use Rattle.gateway_run.specs.Log.{start_at}
+use Rattle.gateway_model.specs.Known.{is_of}
+use Rattle.std.proofs.lemmas.List.Elements.{filter-append}
 
 -- ---- places
 
@@ -50,23 +38,11 @@ is_started_on c s = is_of c s.1
 
 pub starts_on : (c place : ℕ) (js : List JobValue) → filter (is_started_on c) (map (start place) js) ≡ map (start place) (filter (is_of c) js)
 starts_on c place [] = refl
-starts_on c place (j ∷ js) = by_it (is_of c j) (starts_on c place js)
-  where
-    by_it : (b : Bool) → filter (is_started_on c) (map (start place) js) ≡ map (start place) (filter (is_of c) js)
-        → (if b then start place j ∷ filter (is_started_on c) (map (start place) js) else filter (is_started_on c) (map (start place) js))
-        ≡ map (start place) (if b then j ∷ filter (is_of c) js else filter (is_of c) js)
-    by_it true rest = ap (λ xs. start place j ∷ xs) rest
-    by_it false rest = rest
+starts_on c place (j ∷ js) = grind (arith, starts_on c place js)
 
 pub run_starts_on : (c : ℕ) (started : List StartedJob) → filter (is_start_of c) (map run_start started) ≡ map run_start (filter (is_started_on c) started)
 run_starts_on c [] = refl
-run_starts_on c (s ∷ started) = by_it (is_of c s.1) (run_starts_on c started)
-  where
-    by_it : (b : Bool) → filter (is_start_of c) (map run_start started) ≡ map run_start (filter (is_started_on c) started)
-        → (if b then run_start s ∷ filter (is_start_of c) (map run_start started) else filter (is_start_of c) (map run_start started))
-        ≡ map run_start (if b then s ∷ filter (is_started_on c) started else filter (is_started_on c) started)
-    by_it true rest = ap (λ xs. run_start s ∷ xs) rest
-    by_it false rest = rest
+run_starts_on c (s ∷ started) = grind (arith, run_starts_on c started)
 
 pub starts_at : (place : ℕ) (js : List JobValue) → map (start_at place) js ≡ map run_start (map (start place) js)
 starts_at place [] = refl
@@ -80,9 +56,7 @@ jobs_again place (j ∷ js) = ap (λ xs. j ∷ xs) (jobs_again place js)
 
 one_more : (c : ℕ) (o : Placed) (lived : List Placed) → filter (is_started_on c) (starts (o ∷ lived))
     ≡ filter (is_started_on c) (starts lived) ++ map (start o.0) (filter (is_of c) (jobs_by o.1 (mark_of (marked (occurrences lived)) o.1) (marked (occurrences lived))))
-one_more c o lived =
-    filter-append (is_started_on c) (starts lived) (map (start o.0) (jobs_by o.1 (mark_of (marked (occurrences lived)) o.1) (marked (occurrences lived))))
-    ∙ ap (λ xs. filter (is_started_on c) (starts lived) ++ xs) (starts_on c o.0 (jobs_by o.1 (mark_of (marked (occurrences lived)) o.1) (marked (occurrences lived))))
+one_more c o lived = search (arith, nat_tests, filter-append, starts_on)
 
 -- what the newest starts is as if none had broken
 same_new : (c : ℕ) (o : Occurrence) (os : List Occurrence) → is_break o ≡ false → is_broken c (marked (o ∷ os)) ≡ false → is_broken c (marked os) ≡ false
@@ -99,14 +73,7 @@ same_new c o os plain off before = append_cancel_left (filter (is_of c) (jobs (m
     after = jobs_by o (mark_of (marked (without_breaks os)) o) (marked (without_breaks os))
 
 no_job_breaks : (c : ℕ) (o : Occurrence) (os : List Occurrence) → is_break o ≡ true → filter (is_of c) (jobs_by o (mark_of (marked os) o) (marked os)) ≡ []
-no_job_breaks c (Break d) os e = refl
-no_job_breaks c Opening os e = absurd (cc)
-no_job_breaks c (Comes d x) os e = absurd (cc)
-no_job_breaks c (HangUp d) os e = absurd (cc)
-no_job_breaks c (Moment t) os e = absurd (cc)
-no_job_breaks c (Result id i r) os e = absurd (cc)
-no_job_breaks c Drain os e = absurd (cc)
-no_job_breaks c (Closing d) os e = absurd (cc)
+no_job_breaks c o os h3 = grind (arith, nat_tests)
 
 pub same_starts : (c : ℕ) (lived : List Placed) → is_broken c (marked (occurrences lived)) ≡ false
     → filter (is_started_on c) (starts lived) ≡ filter (is_started_on c) (starts (by_events lived))

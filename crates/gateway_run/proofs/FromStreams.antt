@@ -1,25 +1,7 @@
 -- What comes on a connection is what the whole of its stream is cut into.
-use Rattle.std.proofs.Common.{◌≡◌, ℕ, zero, suc, Bool, true, false, List, [], ◌∷◌, ◌++◌, length, map, Option, None, Some, refl, sym, ap, ◌∙◌, subst, arith, append_assoc, append-nil, ⊎_elim}
-use Rattle.std.specs.Prelude.{◌==◌, ◌&&◌, ◌||◌, if◌then◌else◌, flat_map, is_some, option_map, option_to_list, slice_get, MatchBool}
-use Rattle.std.specs.Option.{option_or}
-use Rattle.std.proofs.lemmas.Bool.{cases_Bool, eq-eqb, eqb-true, ne_eqb}
-use Rattle.std.proofs.lemmas.List.{append_cancel_left, map-append}
+use Rattle.gateway_run.proofs.Names.{◌≡◌, ℕ, zero, suc, Bool, true, false, List, [], ◌∷◌, ◌++◌, length, map, Option, None, Some, refl, sym, ap, ◌∙◌, subst, arith, append_assoc, append-nil, flat_map, ◌==◌, ◌||◌, if◌then◌else◌, is_some, option_map, option_to_list, slice_get, MatchBool, option_or, eq-eqb, eqb-true, ne_eqb, append_cancel_left, map-append, HttpRequest, StreamEnd, Open, RefusedBy, Closed, Requests, PlanRecord, Before, Gains, Occurs, OccursAt, once, onto, piece_of, refusal_gained, requests_gained, stream, Event, Piece, Coming, Comes, Occurrence, call_id, coming_on, arrivals, marked, is_broken, breaks, came, Placed, occurrences, brought_by, came_on, or_none, nat_tests}
 use Rattle.http_pieces.specs.declared.refusal.Refusal.{Refusal}
-use Rattle.http_pieces.specs.Request.{HttpRequest}
-use Rattle.http_pieces.specs.Requests.{StreamEnd, Open, RefusedBy, Closed, Requests}
-use Rattle.call_plan.specs.Plan.{PlanRecord}
-use Rattle.gateway_model.specs.Arrival.{arrival_of}
-use Rattle.gateway_model.specs.Events.{Before, Gains, Occurs, OccursAt, is_open, listens, once, onto, piece_of, refusal_gained, requests_gained, stream, succeeds}
-use Rattle.gateway_model.specs.declared.event.Event.{Event}
-use Rattle.gateway_model.specs.declared.event.Event.TheVariants.{Opening, Piece, HangUp, Moment, BranchResult, Drain, Closing}
-use Rattle.gateway_model.specs.Occurrence.{Coming, Comes, Occurrence, Request}
-use Rattle.gateway_model.specs.Occurrence as occurs
 use Rattle.gateway_theory.specs.lemmas.Whole.{none_breaks}
-use Rattle.gateway_model.specs.Past.{call_id, crowds, coming_now, coming_on, arrivals, mark_of, marked, is_broken, breaks}
-use Rattle.gateway_model.specs.Queue.{came}
-use Rattle.gateway_model.specs.Starts.{Placed, occurrences}
-use Rattle.gateway_model.specs.Headline.{brought_by, came_on}
-use Rattle.gateway_theory.specs.lemmas.Cases.{or_none}
 use Rattle.gateway_theory.specs.lemmas.ServedLemmas.{text_still as stream_same}
 
 -- what is known of requests
@@ -58,20 +40,8 @@ came_onto conn place (o ∷ os) past =
     came_onto conn place os ((place, o) ∷ past) ∙ append_assoc (came_whole conn (occurrences past)) (option_to_list (coming_on conn o false)) (gained_on conn os)
 
 comings_gained : (c conn : ℕ) (xs : List Coming) → gained_on conn (map (Comes c) xs) ≡ (if c == conn then xs else [])
-comings_gained c conn [] = by_test (c == conn)
-  where
-    nothing : List Coming
-    nothing = []
-
-    by_test : (b : Bool) → nothing ≡ (if b then nothing else nothing)
-    by_test true = refl
-    by_test false = refl
-comings_gained c conn (x ∷ xs) = by_test (c == conn) (comings_gained c conn xs)
-  where
-    by_test : (b : Bool) → gained_on conn (map (Comes c) xs) ≡ (if b then xs else [])
-        → option_to_list (if b && true then Some x else None) ++ gained_on conn (map (Comes c) xs) ≡ (if b then x ∷ xs else [])
-    by_test true e = ap (λ ys. x ∷ ys) e
-    by_test false e = e
+comings_gained c conn [] = grind arith
+comings_gained c conn (x ∷ xs) = grind (arith, comings_gained c conn xs)
 
 once_gained : (conn : ℕ) (b : Bool) (o : Occurrence) → coming_on conn o false ≡ None → gained_on conn (once b o) ≡ []
 once_gained conn true o e = ap (λ x. option_to_list x ++ []) e
@@ -79,43 +49,21 @@ once_gained conn false o e = refl
 
 -- ---- one event
 
-same_if : (b : Bool) (s t : List ℕ) → t ≡ [] → (if b then s ++ t else s) ≡ s
-same_if true s t e = ap (λ xs. s ++ xs) e ∙ append-nil s
-same_if false s t e = refl
-
 refusal_from : (left : List ℕ) (e : StreamEnd) → refusal_gained (Open left) e ≡ refusal_gained (Open []) e
-refusal_from left (Open l) = refl
-refusal_from left (RefusedBy r) = refl
-refusal_from left Closed = refl
+refusal_from left e = grind (arith, nat_tests)
 
 -- what a longer stream brings is what the shorter one brought, and what it gains
 brought_more : (plans : List PlanRecord) (ending later : StreamEnd) (given more : List HttpRequest)
     → ((r : Refusal) → ending ≡ RefusedBy r → (more ≡ []) × (later ≡ RefusedBy r)) → (ending ≡ Closed → (more ≡ []) × (later ≡ Closed))
     → brought_by plans given ending ++ (requests_gained plans more ++ refusal_gained ending later) ≡ brought_by plans (given ++ more) later
-brought_more plans (Open left) later given more refused closed =
-    ap (λ xs. xs ++ (requests_gained plans more ++ refusal_gained (Open left) later)) (append-nil (requests_gained plans given))
-    ∙ ap (λ xs. requests_gained plans given ++ (requests_gained plans more ++ xs)) (refusal_from left later)
-    ∙ sym (append_assoc (requests_gained plans given) (requests_gained plans more) (refusal_gained (Open []) later))
-    ∙ ap (λ xs. xs ++ refusal_gained (Open []) later) (sym (map-append (λ q. Request q (arrival_of plans q)) given more))
-brought_more plans (RefusedBy r) later given more refused closed =
-    let h = refused r refl in
-    ap (λ xs. brought_by plans given (RefusedBy r) ++ (requests_gained plans xs ++ refusal_gained (RefusedBy r) later)) h.0
-    ∙ append-nil (brought_by plans given (RefusedBy r))
-    ∙ ap (λ e. brought_by plans given e) (sym h.1) ∙ ap (λ xs. brought_by plans xs later) (sym (append-nil given) ∙ ap (λ xs. given ++ xs) (sym h.0))
-brought_more plans Closed later given more refused closed =
-    let h = closed refl in
-    ap (λ xs. brought_by plans given Closed ++ (requests_gained plans xs ++ refusal_gained Closed later)) h.0
-    ∙ append-nil (brought_by plans given Closed)
-    ∙ ap (λ e. brought_by plans given e) (sym h.1) ∙ ap (λ xs. brought_by plans xs later) (sym (append-nil given) ∙ ap (λ xs. given ++ xs) (sym h.0))
+brought_more plans ending later given more h5 h6 = grind (arith, nat_tests, append-nil, refusal_from, append_assoc, map-append)
 
 module _ (laws : StreamLaws) (plans : List PlanRecord) (opened : List ℕ) (conn : ℕ) (before : Before) (past : List Placed)
     (was : (given : List HttpRequest) (ending : StreamEnd) → Requests 0 (stream opened conn before) given ending → came_whole conn (occurrences past) ≡ brought_by plans given ending) where
   -- where nothing comes
   quiet : (e : Event) (os : List Occurrence) (given : List HttpRequest) (ending : StreamEnd) → piece_of conn e ≡ [] → gained_on conn os ≡ []
       → Requests 0 (stream opened conn (e ∷ before)) given ending → came_whole conn (occurrences past) ++ gained_on conn os ≡ brought_by plans given ending
-  quiet e os given ending none nothing r =
-      ap (λ xs. came_whole conn (occurrences past) ++ xs) nothing ∙ append-nil (came_whole conn (occurrences past))
-      ∙ was given ending (subst (λ t. Requests 0 t given ending) (stream_same opened conn e before none) r)
+  quiet e os given ending none nothing r = grind (arith, nat_tests, append-nil, stream_same)
 
   -- a piece of the stream
   gains : (bytes : List ℕ) (gained : List Coming) (given : List HttpRequest) (ending : StreamEnd)
@@ -155,31 +103,11 @@ module _ (laws : StreamLaws) (plans : List PlanRecord) (opened : List ℕ) (conn
 
   -- what another stream brings
   other_piece : (c : ℕ) (bytes : List ℕ) (os : List Occurrence) → (c == conn) ≡ false → OccursAt plans opened (Piece c bytes) before os → gained_on conn os ≡ []
-  other_piece c bytes os other at = by_listening (listens opened c before) at
-    where
-      by_listening : (b : Bool)
-          → MatchBool b ((gained : List Coming) × Gains plans (stream opened c before) (stream opened c before ++ bytes) gained × (os ≡ map (Comes c) gained)) (os ≡ [])
-          → gained_on conn os ≡ []
-      by_listening true (gained, g, os_is) = ap (gained_on conn) os_is ∙ comings_gained c conn gained ∙ ap (λ b. if b then gained else []) other
-      by_listening false none = ap (gained_on conn) none
+  other_piece c bytes os other at = grind (arith, nat_tests, comings_gained)
 
   at_event : (e : Event) (os : List Occurrence) (given : List HttpRequest) (ending : StreamEnd) → OccursAt plans opened e before os
       → Requests 0 (stream opened conn (e ∷ before)) given ending → came_whole conn (occurrences past) ++ gained_on conn os ≡ brought_by plans given ending
-  at_event Opening os given ending at r =
-      quiet Opening os given ending refl (ap (gained_on conn) at ∙ once_gained conn (succeeds opened (length before)) occurs.Opening refl) r
-  at_event (HangUp c) os given ending at r = quiet (HangUp c) os given ending refl (ap (gained_on conn) at ∙ once_gained conn (listens opened c before) (occurs.HangUp c) refl) r
-  at_event (Moment m) os given ending at r = quiet (Moment m) os given ending refl (ap (gained_on conn) at) r
-  at_event (BranchResult c k i x) os given ending at r = quiet (BranchResult c k i x) os given ending refl (ap (gained_on conn) at) r
-  at_event Drain os given ending at r = quiet Drain os given ending refl (ap (gained_on conn) at) r
-  at_event (Closing c) os given ending at r = quiet (Closing c) os given ending refl (ap (gained_on conn) at ∙ once_gained conn (is_open opened c before) (occurs.Closing c) refl) r
-  at_event (Piece c bytes) os given ending at r = ⊎_elim
-      (λ (here : (c == conn) ≡ true).
-      let same : c ≡ conn = eqb-true c conn here in
-      own_piece (listens opened conn before) bytes os given ending (subst (λ d. OccursAt plans opened (Piece d bytes) before os) same at)
-      (subst (λ d. Requests 0 (stream opened conn (Piece d bytes ∷ before)) given ending) same r))
-      (λ (other : (c == conn) ≡ false).
-      quiet (Piece c bytes) os given ending (ap (λ b. if b then bytes else []) other) (other_piece c bytes os other at) r)
-      (cases_Bool (c == conn))
+  at_event e os given ending h4 h5 = grind (arith, nat_tests, quiet, once_gained, eqb-true, own_piece, other_piece)
 
 whole_are : (laws : StreamLaws) (plans : List PlanRecord) (opened : List ℕ) (conn : ℕ) (es : Before) (occurred : List Placed) (given : List HttpRequest) (ending : StreamEnd)
     → Occurs plans opened es occurred → Requests 0 (stream opened conn es) given ending → came_whole conn (occurrences occurred) ≡ brought_by plans given ending
@@ -198,11 +126,7 @@ came_are laws plans opened conn es occurred given ending o r =
 -- ---- and by numbers
 
 eqb_suc : (n k : ℕ) → (suc n == suc k) ≡ (n == k)
-eqb_suc n k = ⊎_elim
-    (λ (here : (n == k) ≡ true). eq-eqb (suc n) (suc k) (ap suc (eqb-true n k here)) ∙ sym here)
-    (λ (other : (n == k) ≡ false).
-    ne_eqb (suc n) (suc k) (λ same. let clash : true ≡ false = sym (eq-eqb n k (let s : n ≡ k = omega (arith, same) in s)) ∙ other in cc) ∙ sym other)
-    (cases_Bool (n == k))
+eqb_suc n k = grind arith
 
 at_end : {A : Type 0} (xs : List A) (x : A) (k : ℕ) → slice_get (xs ++ x ∷ []) k ≡ option_or (slice_get xs k) (if length xs == k then Some x else None)
 at_end [] x zero = refl
@@ -234,27 +158,4 @@ both_of (Some a) b = refl
 -- request k of a connection is number k of what came on it
 pub came_at : (conn k : ℕ) (os : List Occurrence) → option_map {U = Coming} (λ x. x.0) (came (call_id conn k) (marked os)) ≡ slice_get (came_on conn os) k
 came_at conn k [] = refl
-came_at conn k (o ∷ os) =
-    both_of (came (call_id conn k) (marked os)) (option_map {U = Coming × Bool} (λ (e : Coming). (e, crowds o (marked os))) (coming_now (call_id conn k) (mark_of (marked os) o) (marked os)))
-    ∙ by_what (coming_on conn o (is_broken conn (marked os))) (came_at conn k os)
-  where
-    at_none : (b c : Bool) → entering_of (option_map {U = Coming × Bool} (λ (e : Coming). (e, c)) (if b then None else None)) ≡ None
-    at_none true c = refl
-    at_none false c = refl
-
-    at_some : (b c : Bool) (x : Coming) → entering_of (option_map {U = Coming × Bool} (λ (e : Coming). (e, c)) (if b then Some x else None)) ≡ (if b then Some x else None)
-    at_some true c x = refl
-    at_some false c x = refl
-
-    by_what : (x : Option Coming) → entering_of (came (call_id conn k) (marked os)) ≡ slice_get (came_on conn os) k
-        → option_or (entering_of (came (call_id conn k) (marked os)))
-        (entering_of (option_map {U = Coming × Bool} (λ (e : Coming). (e, crowds o (marked os))) (if arrivals conn (marked os) == k then x else None)))
-        ≡ slice_get (came_on conn os ++ option_to_list x) k
-    by_what None e =
-        ap (λ y. option_or (entering_of (came (call_id conn k) (marked os))) y) (at_none (arrivals conn (marked os) == k) (crowds o (marked os)))
-        ∙ or_none (entering_of (came (call_id conn k) (marked os))) ∙ e ∙ ap (λ xs. slice_get xs k) (sym (append-nil (came_on conn os)))
-    by_what (Some x) e =
-        ap (λ y. option_or (entering_of (came (call_id conn k) (marked os))) y) (at_some (arrivals conn (marked os) == k) (crowds o (marked os)) x)
-        ∙ ap (λ y. option_or y (if arrivals conn (marked os) == k then Some x else None)) e
-        ∙ ap (λ n. option_or (slice_get (came_on conn os) k) (if n == k then Some x else None)) (came_count conn os)
-        ∙ sym (at_end (came_on conn os) x k)
+came_at conn k (o ∷ os) = grind (arith, nat_tests, came_at conn k os, both_of, or_none, append-nil, came_count, at_end)

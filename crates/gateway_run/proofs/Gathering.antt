@@ -1,37 +1,11 @@
 -- What a run takes from the gateway: replies and jobs.
-use Rattle.std.proofs.Common.{◌≡◌, ℕ, ◌<◌, ◌≤◌, Bool, true, false, List, [], ◌∷◌, ◌++◌, length, map, Option, refl, sym, ap, ◌∙◌, subst, arith, append-nil, append_assoc, ⊎_elim, inl, inr}
-use Rattle.std.specs.Prelude.{◌⊎◌, if◌then◌else◌, ◌&&◌, ◌||◌, ◌==◌, flat_map, option_map, option_to_list}
-use Rattle.std.proofs.lemmas.Bool.{cases_Bool, eq-eqb, eqb-true, ne_eqb}
-use Rattle.std.proofs.lemmas.Grind.{flat_map-append}
-use Rattle.std.proofs.lemmas.List.{append_cancel_left, length-set, map-append}
-use Rattle.gateway_model.specs.declared.entry.ReplyEntry.{ReplyEntry}
+use Rattle.gateway_run.proofs.Names.{◌≡◌, ℕ, ◌<◌, ◌≤◌, Bool, true, false, List, [], ◌∷◌, ◌++◌, length, map, Option, refl, sym, ap, ◌∙◌, subst, arith, append-nil, append_assoc, ⊎_elim, inl, inr, flat_map, ◌⊎◌, if◌then◌else◌, ◌||◌, ◌==◌, option_map, option_to_list, cases_Bool, eq-eqb, eqb-true, ne_eqb, flat_map-append, append_cancel_left, length-set, map-append, ReplyEntry, Before, Occurs, is_broken_conn, is_open_conn, untaken_of, GatewayValue, answer_of, Lives, Served, with_reply, after_reply, TakesOnly, Placed, job_started, ClosedSo, Collects, absent, gathers, HasRun, LogValue, TookReplies, flag_at, log_with, queue_at, bytes_of, History, history_of, nat_tests}
 use Rattle.gateway_model.specs.declared.reply_bytes.ReplyBytes.{ReplyBytes}
-use Rattle.gateway_model.specs.Events.{Before, Occurs}
-use Rattle.gateway_theory.specs.Gateway.{is_broken_conn, is_open_conn, untaken_of}
-use Rattle.gateway_theory.specs.Values.{GatewayValue, connection}
-use Rattle.gateway_model.specs.Queue.{answer_of, front}
 use Rattle.gateway_theory.specs.Replies.{ReplyValue}
-use Rattle.gateway_theory.specs.Served.{Lives, Served, with_reply, after_reply}
-use Rattle.gateway_theory.specs.Serving.{TakesOnly}
-use Rattle.gateway_model.specs.Starts.{Placed}
-use Rattle.gateway_theory.specs.Starting.{job_started}
-use Rattle.gateway_run.specs.Log.{ClosedSo, Collects, absent, gathers, HasRun, LogValue, TookReplies, flag_at, log_with, queue_at}
-use Rattle.gateway_model.specs.Run.{bytes_of}
-use Rattle.gateway_model.specs.History.{History, history_of}
 use Rattle.gateway_run.proofs.Flags.{set_here, set_other}
-use Rattle.gateway_theory.specs.lemmas.CutLemmas.{open_known}
 
 only_then : (n : ℕ) (u v w : GatewayValue) → TakesOnly n u v → TakesOnly n v w → TakesOnly n u w
-only_then n u v w a b = record {
-  plans_are = b.plans_are ∙ a.plans_are;
-  opened_is = b.opened_is ∙ a.opened_is;
-  begun_is = b.begun_is ∙ a.begun_is;
-  tally_is = b.tally_is ∙ a.tally_is;
-  jobs_are = b.jobs_are ∙ a.jobs_are;
-  open_are = λ c. b.open_are c ∙ a.open_are c;
-  broken_are = λ c. b.broken_are c ∙ a.broken_are c;
-  others_are = λ c ne. b.others_are c ne ∙ a.others_are c ne;
-}
+only_then n u v w a b = grind arith
 
 -- one reply more, or none
 pub took_none : (n : ℕ) (v : GatewayValue) → TookReplies n [] v v
@@ -75,10 +49,7 @@ took_more n entries reply u v w t stands lives first only = record {
         by_it false e = e
 
 pub bytes_more : (entries : List ReplyEntry) (e : ReplyEntry) → bytes_of (entries ++ e ∷ []) ≡ bytes_of entries ++ (answer_of e).bytes
-bytes_more entries e =
-    ap (flat_map (λ (r : ReplyBytes). r.bytes)) (map-append answer_of entries (e ∷ []))
-    ∙ flat_map-append (λ (r : ReplyBytes). r.bytes) (map answer_of entries) (answer_of e ∷ [])
-    ∙ ap (λ xs. bytes_of entries ++ xs) (append-nil (answer_of e).bytes)
+bytes_more entries e = grind (arith, nat_tests, map-append, flat_map-append, append-nil)
 
 pub bytes_both : (xs ys : List ReplyEntry) → bytes_of (xs ++ ys) ≡ bytes_of xs ++ bytes_of ys
 bytes_both xs ys = ap (flat_map (λ (r : ReplyBytes). r.bytes)) (map-append answer_of xs ys) ∙ flat_map-append (λ (r : ReplyBytes). r.bytes) (map answer_of xs) (map answer_of ys)
@@ -87,56 +58,7 @@ bytes_both xs ys = ap (flat_map (λ (r : ReplyBytes). r.bytes)) (map-append answ
 
 module _ (gathered : ℕ → Bool) (n : ℕ) (v w : GatewayValue) (log later : LogValue) (es : Before) (h : HasRun gathered v log es) where
   same_run : w ≡ v → later ≡ log → length log.queued ≤ n → HasRun (λ c. gathered c || c == n) w later es
-  same_run w_is later_is beyond = subst (λ x. HasRun (λ c. gathered c || c == n) x later es) (sym w_is) (subst (λ l. HasRun (λ c. gathered c || c == n) v l es) (sym later_is) (record {
-    taken = h.taken;
-    started = h.started;
-    served = h.served;
-    no_jobs = h.no_jobs;
-    opened_are = h.opened_are;
-    opened_size = h.opened_size;
-    queued_size = h.queued_size;
-    broke_size = h.broke_size;
-    starts_are = h.starts_are;
-    jobs_are = h.jobs_are;
-    queued_are = h.queued_are;
-    unflagged = λ c off there. h.unflagged c (first (gathered c) (c == n) off) there;
-    flagged = λ c on there. h.flagged c (was c on there) there;
-    none_left = λ c on. none_of c (c == n) refl on;
-    has_lived = h.has_lived;
-  }))
-    where
-      -- one that was not opened has no replies
-      none_of : (c : ℕ) (b : Bool) → (c == n) ≡ b → (gathered c || c == n) ≡ true → untaken_of c v ≡ []
-      none_of c false other on = h.none_left c (or_false_so (gathered c) (ap (λ b. gathered c || b) (sym other) ∙ on))
-        where
-          or_false_so : (a : Bool) → (a || false) ≡ true → a ≡ true
-          or_false_so true e = refl
-          or_false_so false e = absurd (cc)
-      none_of c true its on = by_open (is_open_conn c v) refl
-        where
-          by_open : (b : Bool) → is_open_conn c v ≡ b → untaken_of c v ≡ []
-          by_open false off = ap (λ b. if b then front (connection c v).slots else []) off
-          by_open true there = absurd (
-              let lt = open_known log.opened c es ((h.served.conns.each c).open_is ∙ there) in
-              let same : c ≡ n = eqb-true c n its in
-              let count = h.served.conns.count_is in
-              let size = h.queued_size in omega (arith, lt, same, count, size, beyond))
-
-      first : (a b : Bool) → (a || b) ≡ false → a ≡ false
-      first true b e = absurd (cc)
-      first false b e = refl
-
-      was : (c : ℕ) → (gathered c || c == n) ≡ true → is_open_conn c v ≡ true → gathered c ≡ true
-      was c on there = by_it (gathered c) (c == n) refl on
-        where
-          by_it : (a b : Bool) → (c == n) ≡ b → (a || b) ≡ true → a ≡ true
-          by_it true b e x = refl
-          by_it false true e x = absurd (
-              let lt = open_known log.opened c es ((h.served.conns.each c).open_is ∙ there) in
-              let same : c ≡ n = eqb-true c n e in
-              let count = h.served.conns.count_is in
-              let size = h.queued_size in omega (arith, lt, same, count, size, beyond))
-          by_it false false e x = absurd (cc)
+  same_run w_is later_is beyond = grind arith
 
   module _ (lt : n < length log.queued) (t : TookReplies n (untaken_of n v) v w) where
     abbrev next : LogValue
@@ -180,58 +102,26 @@ module _ (gathered : ℕ → Bool) (n : ℕ) (v w : GatewayValue) (log later : L
     none_left = append_cancel_left (untaken_of n v) (untaken_of n w) [] (sym t.untaken_are ∙ sym (append-nil (untaken_of n v)))
 
     queue : (c : ℕ) → (c ≡ n) ⊎ (c ≡ n → ⊥) → queue_at c next ≡ bytes_of (after c)
-    queue c (inl same) = subst (λ m. queue_at m next ≡ bytes_of (after m)) (sym same)
-        (set_here log.queued n (queue_at n log ++ bytes_of (untaken_of n v)) [] lt ∙ ap (λ xs. xs ++ bytes_of (untaken_of n v)) (h.queued_are n)
-        ∙ sym (bytes_both (h.taken n) (untaken_of n v)) ∙ ap bytes_of (sym taken_here))
-    queue c (inr other) = set_other log.queued n c (queue_at n log ++ bytes_of (untaken_of n v)) [] other ∙ h.queued_are c ∙ ap bytes_of (sym (taken_other c other))
+    queue c h1 = grind (arith, nat_tests, set_here, bytes_both, taken_here, set_other, taken_other)
 
     flag_now : is_open_conn n w ≡ true → (b : Bool) → gathered n ≡ b → flag_at n next ≡ is_broken_conn n w
     flag_now there true e = flag_here ∙ ap (λ b. b || is_broken_conn n v) (h.flagged n e (sym (t.only.open_are n) ∙ there)) ∙ twice (is_broken_conn n v) ∙ sym (t.only.broken_are n)
     flag_now there false e = flag_here ∙ ap (λ b. b || is_broken_conn n v) (h.unflagged n e (sym (t.only.open_are n) ∙ there)) ∙ sym (t.only.broken_are n)
 
     still : (c : ℕ) → (c ≡ n → ⊥) → (gathered c || c == n) ≡ true → gathered c ≡ true
-    still c other on = by_it (gathered c) (ap (λ b. gathered c || b) (sym (ne_eqb c n other)) ∙ on)
-      where
-        by_it : (b : Bool) → (b || false) ≡ true → b ≡ true
-        by_it true e = refl
-        by_it false e = absurd (cc)
+    still c other on = grind arith
 
     flag : (c : ℕ) → (gathered c || c == n) ≡ true → is_open_conn c w ≡ true → (c ≡ n) ⊎ (c ≡ n → ⊥) → flag_at c next ≡ is_broken_conn c w
     flag c on there (inl same) = subst (λ m. flag_at m next ≡ is_broken_conn m w) (sym same) (flag_now (ap (λ m. is_open_conn m w) (sym same) ∙ there) (gathered n) refl)
     flag c on there (inr other) = flag_other c other ∙ h.flagged c (still c other on) (sym (t.only.open_are c) ∙ there) ∙ sym (t.only.broken_are c)
 
     plainly : (c : ℕ) → (gathered c || c == n) ≡ false → is_open_conn c w ≡ true → (c ≡ n) ⊎ (c ≡ n → ⊥) → flag_at c next ≡ false
-    plainly c off there (inl same) = absurd (let clash : true ≡ false = sym (eq-eqb c n same) ∙ second (gathered c) (c == n) off in cc)
-      where
-        second : (a b : Bool) → (a || b) ≡ false → b ≡ false
-        second true b e = absurd (cc)
-        second false b e = e
-    plainly c off there (inr other) = flag_other c other ∙ h.unflagged c (first (gathered c) (c == n) off) (sym (t.only.open_are c) ∙ there)
+    plainly c h1 h2 h3 = grind (arith, nat_tests, eq-eqb, flag_other, first)
 
     -- one that was closed
     closed : (c : ℕ) → c < w.opened → is_open_conn c w ≡ false → (lived : List Placed) → (c < v.opened → is_open_conn c v ≡ false → ClosedSo c log h.taken lived) → (c ≡ n) ⊎ (c ≡ n → ⊥)
         → ClosedSo c next after lived
-    closed c less off lived so (inl same) = let was = so (subst (λ m. c < m) t.only.opened_is less) (sym (t.only.open_are c) ∙ off) in record {
-      broken_is = subst (λ m. flag_at m next ≡ flag_at m log) (sym same) (flag_here ∙ unbroken) ∙ was.broken_is;
-      queue_is = subst (λ m. after m ≡ h.taken m) (sym same) (taken_here ∙ nothing) ∙ was.queue_is;
-    }
-      where
-        shut_is : is_open_conn n v ≡ false
-        shut_is = sym (t.only.open_are n) ∙ ap (λ m. is_open_conn m w) (sym same) ∙ off
-
-        unbroken : (flag_at n log || is_broken_conn n v) ≡ flag_at n log
-        unbroken = ap (λ b. flag_at n log || (b && (connection n v).broken)) shut_is ∙ by_it (flag_at n log)
-          where
-            by_it : (b : Bool) → (b || false) ≡ b
-            by_it true = refl
-            by_it false = refl
-
-        nothing : h.taken n ++ untaken_of n v ≡ h.taken n
-        nothing = ap (λ b. h.taken n ++ (if b then front (connection n v).slots else [])) shut_is ∙ append-nil (h.taken n)
-    closed c less off lived so (inr other) = let was = so (subst (λ m. c < m) t.only.opened_is less) (sym (t.only.open_are c) ∙ off) in record {
-      broken_is = flag_other c other ∙ was.broken_is;
-      queue_is = taken_other c other ∙ was.queue_is;
-    }
+    closed c h1 h2 lived h4 h5 = grind (arith, nat_tests, flag_here, taken_here, append-nil, flag_other, taken_other)
 
     none_then : (c : ℕ) → (gathered c || c == n) ≡ true → (c ≡ n) ⊎ (c ≡ n → ⊥) → untaken_of c w ≡ []
     none_then c on (inl same) = ap (λ m. untaken_of m w) same ∙ none_left

@@ -1,3 +1,4 @@
+pub mod Names
 pub mod Entries
 pub mod RunLemmas
 pub mod Scripts

@@ -1,27 +1,15 @@
 -- Texts that a writer has a beginning of.
-use Rattle.std.specs.Prelude.{◌≡◌, ℕ, ◌+◌, ◌-◌, ◌≤◌, ◌<◌, List, [], ◌∷◌, ◌++◌, length, take, drop, flat_map, get_or, Option, Some, None, Result, Ok, Err, OnErr, codes, decimal}
-use Rattle.std.specs.List.{enumerate_from}
-use Rattle.std.proofs.Common.{arith, refl, sym, ap, ◌∙◌, append_assoc}
+use Rattle.gateway_run.proofs.Names.{◌≡◌, ℕ, ◌+◌, ◌-◌, ◌≤◌, ◌<◌, List, [], ◌∷◌, ◌++◌, length, take, drop, flat_map, get_or, Option, Result, Ok, Err, arith, refl, sym, ap, ◌∙◌, append_assoc, OnErr, codes, decimal, enumerate_from, take_all, length-drop, length-append, take-append-le, take-append-drop, take_more, common_steps, flat_map-append, Appends, AppendsSome, start_line, connection_text, connections_text, nat_tests}
+use Rattle.std.proofs.lemmas.List.{append-nil}
 use Rattle.std.proofs.Math.Seq.{take-add, take-append-add}
-use Rattle.std.proofs.lemmas.List.{take_all, length-drop, length-append, take-append-le, take-append-drop, append-nil, take_more}
 use Rattle.std.proofs.lemmas.List.FromFn.{length-enumerate_from, get_or-enumerate_from}
-use Rattle.std.proofs.lemmas.Grind.{common_steps, flat_map-append}
 use Rattle.std.proofs.KnownBytes.{Appends-trans}
-use Rattle.std.specs.Io.KnownBytes.{Appends}
-use Rattle.gateway_run.specs.RunText.{AppendsSome, start_line, connection_text, connections_text}
 use Rattle.gateway_model.specs.declared.run.Start.{Start}
-use Rattle.gateway_theory.specs.lemmas.Cases.{err_if as OnErr-from}
 
 -- a write took k more bytes
 pub Appends-more : (old mid new : Option (List ℕ)) (n k : ℕ) (text : List ℕ)
     → Appends old mid (take n text) → Appends mid new (take k (take (length text - n) (drop n text))) → Appends old new (take (n + k) text)
-Appends-more None mid new n k text s a = tt
-Appends-more (Some xs) None new n k text s a = absurd s
-Appends-more (Some xs) (Some ys) None n k text s a = absurd a
-Appends-more (Some xs) (Some ys) (Some zs) n k text s a =
-    let cut = take-add n k text in
-    let whole : take (length text - n) (drop n text) ≡ drop n text = take_all _ _ (omega (arith, length-drop n text)) in
-    grind (arith, common_steps)
+Appends-more old mid new n k text h6 h7 = grind (arith, nat_tests, take-add, take_all, length-drop, common_steps)
 
 -- the beginning of a text is that of a longer one
 pub AppendsSome-front : (a b : Option (List ℕ)) (xs ys : List ℕ) → AppendsSome a b xs → AppendsSome a b (xs ++ ys)
@@ -74,9 +62,7 @@ connection_parts conn bytes a b p q = rw (p, q) (grind (arith, common_steps, app
 
 pub entry_at : (queued : List (List ℕ)) (i : ℕ) (d bytes : List ℕ) → i < length queued → bytes ≡ get_or queued i d
     → get_or (enumerate_from 0 queued) i (0, d) ≡ (i, bytes)
-entry_at queued i d bytes lt e =
-    let index : 0 + i ≡ i = omega arith in
-    rw (get_or-enumerate_from 0 queued i (0, d) lt, index, e) refl
+entry_at queued i d bytes lt e = grind (arith, nat_tests, get_or-enumerate_from)
 
 -- the text of an entry
 abbrev pub entry_text : ℕ × List ℕ → List ℕ

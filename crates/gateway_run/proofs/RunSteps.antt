@@ -1,38 +1,12 @@
 -- How a run goes on with one event more.
-use Rattle.gateway_theory.specs.lemmas.Cases.{and_off}
-use Rattle.std.proofs.Common.{◌≡◌, ℕ, ◌+◌, ◌<◌, ◌≤◌, Bool, true, false, List, [], ◌∷◌, ◌++◌, length, map, Option, None, Some, refl, sym, ap, ◌∙◌, subst, arith, append-nil, append_assoc}
-use Rattle.std.specs.Prelude.{if◌then◌else◌, ◌&&◌, ◌==◌, not, is_some, nat_lt, reverse}
-use Rattle.std.proofs.lemmas.Bool.{eqb-true, lt-ltb, ltb-true, ltb-false}
-use Rattle.std.proofs.lemmas.List.{append_cancel_left, map-append}
-use Rattle.gateway_model.specs.declared.entry.ReplyEntry.{ReplyEntry}
-use Rattle.gateway_model.specs.Breaks.{by_events}
-use Rattle.gateway_model.specs.Events.{Before, IsOpened, Occurs, OccursAt, connections, is_closing_of, is_open, onto}
-use Rattle.gateway_model.specs.declared.event.Event.{Event}
-use Rattle.gateway_model.specs.declared.event.Event.TheVariants.{Opening, Piece, HangUp, Moment, BranchResult, Drain, Closing}
-use Rattle.gateway_theory.specs.Gateway.{is_open_conn, with_jobs}
-use Rattle.gateway_theory.specs.Values.{GatewayValue}
-use Rattle.gateway_model.specs.Job.{JobValue}
-use Rattle.gateway_model.specs.Occurrence.{Occurrence}
-use Rattle.gateway_model.specs.Own.{without_breaks}
-use Rattle.gateway_model.specs.Past.{is_broken, mark_of, marked}
-use Rattle.gateway_model.specs.Queue.{queued_entries}
-use Rattle.gateway_theory.specs.Served.{Adds, HasConns, Lives, Served}
+use Rattle.gateway_run.proofs.Names.{and_off, ◌≡◌, ℕ, ◌+◌, ◌<◌, Bool, true, false, List, [], ◌∷◌, ◌++◌, length, map, refl, sym, ap, ◌∙◌, subst, arith, append-nil, append_assoc, reverse, if◌then◌else◌, ◌&&◌, not, nat_lt, lt-ltb, ltb-true, ltb-false, append_cancel_left, map-append, ReplyEntry, Before, IsOpened, Occurs, connections, is_closing_of, is_open, onto, Event, Opening, Piece, HangUp, Moment, BranchResult, Drain, Closing, is_open_conn, with_jobs, GatewayValue, JobValue, Occurrence, without_breaks, mark_of, marked, Adds, HasConns, Lives, Served, Seen, KeepsBut, Placed, jobs, jobs_by, occurrences, starts, job_started, start, ClosedSo, HasLived, HasRun, LogValue, StartsAll, flag_at, queue_at, start_at, run_start, history_of, events_occur, is_shut_in, without_shut, nat_tests}
+use Rattle.gateway_theory.specs.lemmas.CutLemmas.{jobs_of_starts}
 use Rattle.gateway_theory.specs.Core.{at_place}
-use Rattle.gateway_model.specs.declared.seen.Seen.{Seen}
-use Rattle.gateway_theory.specs.Serving.{KeepsBut}
-use Rattle.gateway_model.specs.Starts.{Placed, jobs, jobs_by, occurrences, starts}
-use Rattle.gateway_theory.specs.Starting.{job_started, start}
-use Rattle.gateway_run.specs.Log.{ClosedSo, HasLived, HasRun, LogValue, StartsAll, flag_at, queue_at}
-use Rattle.gateway_model.specs.Run.{run_start}
-use Rattle.gateway_model.specs.History.{history_of}
-use Rattle.gateway_run.specs.Log.{start_at}
 use Rattle.gateway_run.proofs.ClosedRuns.{AllStill, broken_then, closes_now, queue_then, was_closed}
 use Rattle.gateway_run.proofs.Flags.{beyond, jobs_again, starts_at}
 use Rattle.gateway_theory.specs.lemmas.Adding.{events_are, occurrences_at}
-use Rattle.gateway_theory.specs.lemmas.CutLemmas.{jobs_of_starts}
 use Rattle.gateway_theory.specs.lemmas.ConnectionSteps.{closed_by}
 use Rattle.gateway_theory.specs.lemmas.Laws.{broken_lived, queue_lived}
-use Rattle.gateway_theory.specs.lemmas.PrefixLemmas.{events_occur, is_shut_in, without_shut}
 
 -- ---- what starts at the newest
 
@@ -42,9 +16,7 @@ new_jobs (o ∷ newer) os = new_jobs newer os ++ jobs_by o (mark_of (marked (new
 
 jobs_newer : (newer os : List Occurrence) → jobs (marked (newer ++ os)) ≡ jobs (marked os) ++ new_jobs newer os
 jobs_newer [] os = sym (append-nil (jobs (marked os)))
-jobs_newer (o ∷ newer) os =
-    ap (λ js. js ++ jobs_by o (mark_of (marked (newer ++ os)) o) (marked (newer ++ os))) (jobs_newer newer os)
-    ∙ append_assoc (jobs (marked os)) (new_jobs newer os) (jobs_by o (mark_of (marked (newer ++ os)) o) (marked (newer ++ os)))
+jobs_newer (o ∷ newer) os = grind (arith, nat_tests, jobs_newer newer os, append_assoc)
 
 starts_newer : (n : ℕ) (newer : List Occurrence) (lived : List Placed) → starts (at_place n newer ++ lived) ≡ starts lived ++ map (start n) (new_jobs newer (occurrences lived))
 starts_newer n [] lived = sym (append-nil (starts lived))
@@ -87,15 +59,7 @@ module _ (e : Event) (es : Before) (v w : GatewayValue) (log next : LogValue) (h
   -- a connection that is open behind the event and was known before was open, and does not close by it
   -- the connection was opened before the event, where it is not open behind it
   known_before : (c : ℕ) → c < w.opened → is_open_conn c w ≡ false → c < connections next.opened es
-  known_before c lt off = by_known (nat_lt c (connections next.opened es)) refl
-    where
-      by_known : (b : Bool) → nat_lt c (connections next.opened es) ≡ b → c < connections next.opened es
-      by_known true x = ltb-true c (connections next.opened es) x
-      by_known false x = absurd (
-          let on : is_open next.opened c (e ∷ es) ≡ true =
-          ap (λ b. if b then is_open next.opened c es && not (is_closing_of c e) else nat_lt c (connections next.opened (e ∷ es))) x
-          ∙ lt-ltb c (connections next.opened (e ∷ es)) (let n = served.conns.count_is in omega (arith, n, lt)) in
-          let clash : true ≡ false = sym on ∙ open_now c ∙ off in cc)
+  known_before c lt off = grind (arith, nat_tests, ltb-true, lt-ltb, served, open_now)
 
   -- ---- what was lived, with this event
 
@@ -121,9 +85,7 @@ module _ (e : Event) (es : Before) (v w : GatewayValue) (log next : LogValue) (h
         handed_are = ap (map job_started) was.starts_lived ∙ jobs_of_starts was.lived
 
     starts_now : h.started ++ map (start (length es)) new ≡ starts lived_now
-    starts_now =
-        ap (λ xs. xs ++ map (start (length es)) new) was.starts_lived ∙ ap (λ js. starts was.lived ++ map (start (length es)) js) new_is
-        ∙ sym (starts_newer (length es) added.0 was.lived)
+    starts_now = grind (arith, nat_tests, new_is, starts_newer)
 
     closed_so : (c : ℕ) → c < w.opened → is_open_conn c w ≡ false → ClosedSo c log h.taken lived_now
     closed_so c lt off = by_open (is_open_conn c v) refl

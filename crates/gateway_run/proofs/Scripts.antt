@@ -1,14 +1,12 @@
 -- A script's shape and its parts.
-use Rattle.std.proofs.Common.{◌≡◌, ◌≢◌, List, Some, None, Ok, Err}
+use Rattle.gateway_run.proofs.Names.{◌≡◌, ◌≢◌, List, Some, None, Ok, Err, PlanRecord, Event, IsOfPlans, plan_list_of, entries_of, events_from}
+use Rattle.gateway_run.specs.Script.{script_of}
 use Rattle.serde_json.specs.Data.{Data, Items}
-use Rattle.call_plan.specs.Plan.{PlanRecord}
 use Rattle.call_plan.specs.PlanFile.{plans_of}
 use Rattle.call_plan.specs.declared.error.PlanError.{PlanError}
-use Rattle.call_plan.specs.declared.error.PlanError.TheVariants as plan
-use Rattle.gateway_model.specs.declared.event.Event.{Event}
 use Rattle.gateway_run.specs.declared.fault.ScriptError.{ScriptError}
 use Rattle.gateway_run.specs.declared.fault.ScriptError.TheVariants.{Memory, NotAScript, Plans}
-use Rattle.gateway_run.specs.Script.{IsOfPlans, script_of, plan_list_of, entries_of, events_from}
+use Rattle.call_plan.specs.declared.error.PlanError.TheVariants as plan
 
 -- ---- the shape and the parts
 

@@ -1,25 +1,11 @@
 -- Jobs that are taken one by one.
-use Rattle.std.proofs.Common.{◌≡◌, ℕ, Bool, true, false, List, [], ◌∷◌, ◌++◌, refl, sym, ap, ◌∙◌, subst, append-nil, append_assoc}
-use Rattle.std.proofs.lemmas.Bool.{eq-eqb, ne_eqb}
-use Rattle.std.specs.Prelude.{◌==◌, ⊤, IfOk, IfErr, OnErr, MatchResult, Option, Result, Ok, Err, option_map, option_to_list}
+use Rattle.gateway_run.proofs.Names.{◌≡◌, ℕ, Bool, true, false, List, [], ◌∷◌, ◌++◌, refl, sym, ap, ◌∙◌, subst, append-nil, append_assoc, Option, Result, Ok, Err, arith, eq-eqb, ne_eqb, ◌==◌, ⊤, IfOk, IfErr, OnErr, MatchResult, option_map, option_to_list, Seen, TellsBreaks, TellsConn, TellsOpening, done_of, opened_by, opening_of, seen_in, taken_of, Fault, Opened, with_jobs, GatewayValue, Breaks, KeepsBut, TellsStep, HandedJob, JobValue, Lives, Served, log_value, History, after_jobs, Placed, nat_tests}
 use Rattle.gateway_theory.specs.declared.fault.OpenError.{OpenError}
-use Rattle.gateway_model.specs.declared.seen.Seen.{Seen}
 use Rattle.gateway_theory.specs.declared.fault.StepFault.{StepFault}
-use Rattle.gateway_run.specs.Stepping.{TellsBreaks, TellsConn, TellsOpening, done_of, opened_by, opening_of, seen_in, taken_of}
 use Rattle.gateway_run.specs.declared.stepping.Stepped.{Stepped}
-use Rattle.gateway_run.specs.declared.stepping.Stepped.TheVariants.{Fault, Opened}
 use Rattle.gateway_theory.specs.Refused.{RefusesOpening}
-use Rattle.gateway_theory.specs.Gateway.{with_jobs}
-use Rattle.gateway_theory.specs.Values.{GatewayValue}
-use Rattle.gateway_theory.specs.Serving.{Breaks, KeepsBut, TellsStep}
-use Rattle.gateway_theory.specs.declared.fault.StepFault.TheVariants.{Exhausted, Gone, Memory}
-use Rattle.gateway_theory.specs.Task.{HandedJob}
-use Rattle.gateway_model.specs.Job.{JobValue}
-use Rattle.gateway_theory.specs.Served.{Lives, Served}
-use Rattle.gateway_run.specs.Log.{log_value}
+use Rattle.gateway_theory.specs.declared.fault.StepFault.TheVariants.{Exhausted}
 use Rattle.gateway_model.specs.declared.run.Start.{Start}
-use Rattle.gateway_model.specs.History.{History, after_jobs}
-use Rattle.gateway_model.specs.Starts.{Placed}
 
 -- the first jobs were taken
 pub record Started (v w : GatewayValue) : Type 0 where
@@ -48,11 +34,7 @@ one_started u v w job s stands lives first rest = record {
 pub all_started : (v w : GatewayValue) → Started v w → w.jobs ≡ [] → (w ≡ with_jobs [] v)
     × ((history : History) → Served v history → Served w (after_jobs v.jobs history))
     × ((history : History) (lived : List Placed) → Lives v history lived → Lives w (after_jobs v.jobs history) lived)
-all_started v w s none = (
-  s.rest ∙ ap (λ js. with_jobs js v) none,
-  λ history h. subst (λ js. Served w (after_jobs js history)) (sym (s.jobs_are ∙ ap (λ js. s.gone ++ js) none ∙ append-nil s.gone)) (s.served history h),
-  λ history lived l. subst (λ js. Lives w (after_jobs js history) lived) (sym (s.jobs_are ∙ ap (λ js. s.gone ++ js) none ∙ append-nil s.gone)) (s.lives history lived l),
-)
+all_started v w s none = grind (arith, nat_tests, append-nil)
 
 -- a log by its parts
 pub log_same : {o o' : List ℕ} {q q' : List (List ℕ)} {b b' : List Bool} {s s' : List Start} {j j' : List JobValue} → o ≡ o' → q ≡ q' → b ≡ b' → s ≡ s' → j ≡ j'
@@ -63,18 +45,10 @@ log_same {o} {o'} {q} {q'} {b} {b'} {s} {s'} {j} {j'} os qs bs ss js =
 -- ---- an event that is no opening opens none
 
 pub by_done : {H : Type 0} → (answer : Result ⊤ StepFault) (stepped : Stepped H) (place : ℕ) (opened : List ℕ) → stepped ≡ done_of answer → opened_by stepped place opened ≡ opened
-by_done {H} answer stepped place opened is = ap (λ s. opened_by s place opened) is ∙ none answer
-  where
-    none : (r : Result ⊤ StepFault) → opened_by (done_of {H = H} r) place opened ≡ opened
-    none (Ok all) = refl
-    none (Err fault) = refl
+by_done {H} answer stepped place opened is = grind arith
 
 pub by_taken : {H : Type 0} → (broke : Bool) (stepped : Stepped H) (place : ℕ) (opened : List ℕ) → stepped ≡ taken_of broke → opened_by stepped place opened ≡ opened
-by_taken {H} broke stepped place opened is = ap (λ s. opened_by s place opened) is ∙ none broke
-  where
-    none : (b : Bool) → opened_by (taken_of {H = H} b) place opened ≡ opened
-    none true = refl
-    none false = refl
+by_taken {H} broke stepped place opened is = grind arith
 
 -- ---- an opening
 
@@ -92,18 +66,10 @@ module _ {H : Type 0} where
 -- ---- what is told
 
 pub begins_told : {H : Type 0} → (P : Type 0) (answer : Result ⊤ StepFault) → (answer ≡ Err Exhausted → P) → done_of {H = H} answer ≡ Fault Exhausted → P
-begins_told P (Ok all) begins is = absurd (cc)
-begins_told P (Err Gone) begins is = absurd (cc)
-begins_told P (Err Exhausted) begins is = begins refl
-begins_told P (Err Memory) begins is = absurd (cc)
+begins_told P answer h2 h3 = grind (arith, nat_tests)
 
 pub conn_told : (H : Type 0) (n : ℕ) (answer : Result ⊤ StepFault) (w : GatewayValue) → (v : GatewayValue) → TellsStep n v w answer → TellsConn n (done_of {H = H} answer) v w
-conn_told H n (Ok all) w v tells = (tells.unbroken, λ not_listening. let clash : Ok all ≡ Err Gone = tells.gone.1 not_listening in absurd (cc))
-conn_told H n (Err Gone) w v tells = (tells.gone.0 refl, tells.unchanged refl)
-conn_told H n (Err Exhausted) w v tells =
-    let told = tells.exhausted refl in
-    (told.0, told.1, λ not_listening. let clash : Err Exhausted ≡ Err Gone = tells.gone.1 not_listening in absurd (cc))
-conn_told H n (Err Memory) w v tells = (tells.broke refl, λ not_listening. let clash : Err Memory ≡ Err Gone = tells.gone.1 not_listening in absurd (cc))
+conn_told H n answer w v h5 = grind (arith, nat_tests)
 
 pub opening_told : (H : Type 0) (answer : Result ℕ (List H × OpenError)) (v w : GatewayValue) → IfOk answer (λ conn. conn ≡ v.opened)
     → IfErr answer (λ e. RefusesOpening e.1 v) → OnErr answer (w ≡ v)
@@ -118,25 +84,13 @@ breaks_told H false v w h = h
 -- ---- what is seen
 
 pub none_done : {H : Type 0} → (answer : Result ⊤ StepFault) (stepped : Stepped H) → stepped ≡ done_of answer → seen_in stepped ≡ []
-none_done {H} answer stepped is = ap (λ s. seen_in s) is ∙ none answer
-  where
-    none : (r : Result ⊤ StepFault) → seen_in (done_of {H = H} r) ≡ []
-    none (Ok all) = refl
-    none (Err fault) = refl
+none_done {H} answer stepped is = grind arith
 
 pub none_taken : {H : Type 0} → (broke : Bool) (stepped : Stepped H) → stepped ≡ taken_of broke → seen_in stepped ≡ []
-none_taken {H} broke stepped is = ap (λ s. seen_in s) is ∙ none broke
-  where
-    none : (b : Bool) → seen_in (taken_of {H = H} b) ≡ []
-    none true = refl
-    none false = refl
+none_taken {H} broke stepped is = grind arith
 
 pub none_opening : {H : Type 0} → (answer : Result ℕ (List H × OpenError)) (stepped : Stepped H) → stepped ≡ opening_of answer → seen_in stepped ≡ []
-none_opening {H} answer stepped is = ap (λ s. seen_in s) is ∙ none answer
-  where
-    none : (r : Result ℕ (List H × OpenError)) → seen_in (opening_of {H = H} r) ≡ []
-    none (Ok conn) = refl
-    none (Err refused) = refl
+none_opening {H} answer stepped is = grind arith
 
 -- ---- what is kept
 

@@ -1,20 +1,11 @@
 -- The list of a run's events, and the connections that it lists as broken.
-use Rattle.std.proofs.Common.{◌≡◌, ℕ, zero, suc, ◌+◌, ◌<◌, ◌≤◌, Bool, true, false, List, [], ◌∷◌, ◌++◌, map, refl, sym, ap, ◌∙◌, arith, append-nil, append_assoc, ⊎_elim}
-use Rattle.std.specs.Prelude.{◌||◌, if◌then◌else◌, ◌==◌, filter, nat_lt}
-use Rattle.std.specs.List.{count_by, range_with_len}
-use Rattle.std.proofs.lemmas.Bool.{cases_Bool, cond_both, eq-eqb, eqb-true, ltb-true, ltb-false, ne_eqb}
+use Rattle.gateway_run.proofs.Names.{◌≡◌, ℕ, zero, suc, ◌+◌, ◌<◌, ◌≤◌, Bool, true, false, List, [], ◌∷◌, ◌++◌, map, refl, sym, ap, ◌∙◌, arith, append-nil, append_assoc, ⊎_elim, Result, Ok, Err, length, ◌||◌, if◌then◌else◌, ◌==◌, filter, nat_lt, ◌↔◌, count_by, range_with_len, cases_Bool, eq-eqb, eqb-true, ltb-true, ltb-false, IsRising, is_opening, length-reverse, reverse-append, Event, is_listed, newest_first, nat_tests}
 use Rattle.std.proofs.lemmas.List.Elements.{filter-append}
 use Rattle.std.proofs.lemmas.List.FromFn.{map-range_with_len_more}
-use Rattle.gateway_model.specs.Events.{IsRising}
-use Rattle.std.specs.Prelude.{◌↔◌, Result, Ok, Err, length}
 use Rattle.std.specs.Result.{IsErrAnd}
-use Rattle.std.proofs.lemmas.List.{length-reverse, reverse-append}
 use Rattle.std.proofs.lemmas.List.Sums.{sum_by-cons}
-use Rattle.gateway_model.specs.declared.event.Event.{Event}
 use Rattle.gateway_model.specs.declared.run.RunError.{RunError}
 use Rattle.gateway_model.specs.declared.run.RunError.TheVariants.{Memory, Stocks}
-use Rattle.gateway_model.specs.Run.{is_listed, newest_first}
-use Rattle.gateway_model.specs.Events.{is_opening}
 use Rattle.gateway_run.specs.Running.{openings_at}
 
 range_more : (a n : ℕ) → range_with_len a (n + 1) ≡ range_with_len a n ++ (a + n) ∷ []
@@ -29,30 +20,16 @@ range_more a n =
 -- one more connection, which is broken or not
 pub broken_next : (p : ℕ → Bool) (n : ℕ) (first items new : List ℕ) → items ≡ first ++ filter p (range_with_len 0 n) → new ≡ (if p n then items ++ n ∷ [] else items)
     → new ≡ first ++ filter p (range_with_len 0 (n + 1))
-broken_next p n first items new before new_is =
-    let at : 0 + n ≡ n = omega arith in
-    let more : filter p (range_with_len 0 (n + 1)) ≡ filter p (range_with_len 0 n) ++ filter p (n ∷ []) =
-    ap (filter p) (range_more 0 n) ∙ filter-append p (range_with_len 0 n) ((0 + n) ∷ []) ∙ ap (λ k. filter p (range_with_len 0 n) ++ filter p (k ∷ [])) at in
-    new_is
-    ∙ ⊎_elim (λ (yes_broken : p n ≡ true).
-    rw yes_broken (ap (λ xs. xs ++ n ∷ []) before ∙ append_assoc first (filter p (range_with_len 0 n)) (n ∷ [])
-    ∙ ap (λ xs. first ++ xs) (sym (more ∙ ap (λ b. filter p (range_with_len 0 n) ++ (if b then n ∷ [] else [])) yes_broken))))
-    (λ (fine : p n ≡ false).
-    rw fine (before ∙ ap (λ xs. first ++ xs) (sym (more ∙ ap (λ b. filter p (range_with_len 0 n) ++ (if b then n ∷ [] else [])) fine ∙ append-nil (filter p (range_with_len 0 n))))))
-    (cases_Bool (p n))
+broken_next p n first items new before new_is = grind (arith, nat_tests, range_more, filter-append, append_assoc, append-nil)
 
 -- some of the numbers from k on, behind one that is lower
 rising_behind : (p : ℕ → Bool) (low k n : ℕ) → low < k → IsRising (low ∷ filter p (range_with_len k n))
 rising_behind p low k zero lt = tt
-rising_behind p low k (suc n) lt =
-    cond_both (p k) (k ∷ filter p (range_with_len (k + 1) n)) (filter p (range_with_len (k + 1) n)) (λ xs. IsRising (low ∷ xs))
-    (λ _. (lt, rising_behind p k (k + 1) n (omega arith))) (λ _. rising_behind p low (k + 1) n (omega (arith, lt)))
+rising_behind p low k (suc n) lt = grind (arith, rising_behind p k (k + 1) n (omega arith), rising_behind p low (k + 1) n (omega (arith, lt)))
 
 pub filter_rising : (p : ℕ → Bool) (k n : ℕ) → IsRising (filter p (range_with_len k n))
 filter_rising p k zero = tt
-filter_rising p k (suc n) =
-    cond_both (p k) (k ∷ filter p (range_with_len (k + 1) n)) (filter p (range_with_len (k + 1) n)) IsRising
-    (λ _. rising_behind p k (k + 1) n (omega arith)) (λ _. filter_rising p (k + 1) n)
+filter_rising p k (suc n) = grind (arith, nat_tests, filter_rising p (k + 1) n, rising_behind)
 
 -- what is listed of some numbers is one of them
 pub listed_below : (p : ℕ → Bool) (k n c : ℕ) → is_listed c (filter p (range_with_len k n)) ≡ true → c < k + n
@@ -76,12 +53,7 @@ kept_if true items new n fine e = absurd (cc)
 
 above : (p : ℕ → Bool) (k n c : ℕ) → c < k → is_listed c (filter p (range_with_len k n)) ≡ false
 above p k zero c lt = refl
-above p k (suc n) c lt = by_first (p k) (above p (k + 1) n c (omega (arith, lt)))
-  where
-    by_first : (b : Bool) → is_listed c (filter p (range_with_len (k + 1) n)) ≡ false
-        → is_listed c (if b then k ∷ filter p (range_with_len (k + 1) n) else filter p (range_with_len (k + 1) n)) ≡ false
-    by_first true rest = ap (λ b. b || is_listed c (filter p (range_with_len (k + 1) n))) (ne_eqb k c (λ same. omega (arith, lt, same))) ∙ rest
-    by_first false rest = rest
+above p k (suc n) c lt = grind (arith, above p (k + 1) n c (omega (arith, lt)))
 
 -- a number of the range is listed where it has the property
 pub listed_at : (p : ℕ → Bool) (k n c : ℕ) → k ≤ c → c < k + n → is_listed c (filter p (range_with_len k n)) ≡ p c

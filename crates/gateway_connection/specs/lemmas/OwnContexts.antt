@@ -1,20 +1,7 @@
 -- What is done to all contexts is done to those of each connection.
-use Rattle.std.proofs.Common.{◌≡◌, ℕ, refl, sym, ap, ◌∙◌, List, [], ◌∷◌, ◌++◌, Option, Some, None, Bool, true, false, ⊎_elim, map, subst, cond}
-use Rattle.std.specs.Prelude.{◌||◌, ◌==◌, not, filter, if◌then◌else◌}
-use Rattle.std.specs.Option.{option_or}
-use Rattle.std.specs.List.{list_any}
-use Rattle.std.proofs.lemmas.Bool.{cases_Bool, eq-eqb, eqb-true, or_parts}
+use Rattle.std.specs.Prelude.{◌≡◌, ◌∷◌, ◌++◌, ◌==◌, if◌then◌else◌}
+use Rattle.gateway_connection.specs.lemmas.Names.{ℕ, refl, sym, ap, ◌∙◌, List, [], Option, Some, None, Bool, true, false, ⊎_elim, map, subst, arith, not, filter, option_or, list_any, cases_Bool, eq-eqb, or_parts, filter-append, CallId, is_call, Trigger, Reached, HungUp, Drained, sym_eqb, ContextsValue, Ended, KeepsOthers, LifeValue, LivesApart, PeerValue, TimedBranch, by_drain, by_hang_up, closed, contexts_value, ended_peer, ending_life, ends_life, ends_of, ends_peer, expires_life, has_ended, is_life, is_over, is_peer, on_branches, opened, others, peer, told, with_branches, without, BringsHooks, DropsHooks, HookedContexts, Stocks, TakesAtMostOne, stock_in, ends_branch, LeavesContexts, LeavesOthers, other_peers, own_calls, own_contexts, own_peers, nat_tests}
 use Rattle.std.proofs.lemmas.List.{append-nil}
-use Rattle.std.proofs.lemmas.List.Elements.{filter-append}
-use Rattle.gateway_model.specs.declared.id.CallId.{CallId}
-use Rattle.gateway_model.specs.Past.{is_call}
-use Rattle.gateway_theory.specs.declared.trigger.Trigger.{Trigger}
-use Rattle.gateway_theory.specs.declared.trigger.Trigger.TheVariants.{Reached, HungUp, Drained}
-use Rattle.gateway_theory.specs.lemmas.Cases.{sym_eqb}
-use Rattle.gateway_replies.specs.Contexts.{ContextsValue, Ended, KeepsOthers, LifeValue, LivesApart, PeerValue, TimedBranch, by_drain, by_hang_up, closed, contexts_value, ended_peer, ending_life, ends_life, ends_of, ends_peer, expires_life, has_ended, is_life, is_over, is_peer, on_branches, opened, others, peer, told, with_branches, without}
-use Rattle.gateway_replies.specs.Hooks.{BringsHooks, DropsHooks, HookedContexts, Stocks, TakesAtMostOne, stock_in}
-use Rattle.call_contexts.specs.Standing.{ends_branch}
-use Rattle.gateway_connection.specs.OwnContexts.{LeavesContexts, LeavesOthers, other_peers, own_calls, own_contexts, own_peers}
 
 -- ---- lists, of which some are one's own
 
@@ -22,28 +9,18 @@ module _ {A : Type 0} (number : A → ℕ) (c : ℕ) where
   -- what changes no number is done to one's own, and to the others
   pub own_mapped : (f : A → A) → ((x : A) → number (f x) ≡ number x) → (xs : List A) → filter (λ x. number x == c) (map f xs) ≡ map f (filter (λ x. number x == c) xs)
   own_mapped f same [] = refl
-  own_mapped f same (x ∷ xs) = ⊎_elim
-      (λ (its : (number x == c) ≡ true). rw (ap (λ n. n == c) (same x) ∙ its, its) (ap (λ ys. f x ∷ ys) (own_mapped f same xs)))
-      (λ (far : (number x == c) ≡ false). rw (ap (λ n. n == c) (same x) ∙ far, far) (own_mapped f same xs))
-      (cases_Bool (number x == c))
+  own_mapped f same (x ∷ xs) = grind (arith, own_mapped f same xs)
 
   -- what changes one's own alone leaves the others
   pub others_mapped : (f : A → A) → ((x : A) → number (f x) ≡ number x) → ((x : A) → (number x == c) ≡ false → f x ≡ x) → (xs : List A)
       → filter (λ x. not (number x == c)) (map f xs) ≡ filter (λ x. not (number x == c)) xs
   others_mapped f same stays [] = refl
-  others_mapped f same stays (x ∷ xs) = ⊎_elim
-      (λ (its : (number x == c) ≡ true). rw (ap (λ n. n == c) (same x) ∙ its, its) (others_mapped f same stays xs))
-      (λ (far : (number x == c) ≡ false). rw (ap (λ n. n == c) (same x) ∙ far, far)
-      (ap (λ y. y ∷ filter (λ z. not (number z == c)) (map f xs)) (stays x far) ∙ ap (λ ys. x ∷ ys) (others_mapped f same stays xs)))
-      (cases_Bool (number x == c))
+  others_mapped f same stays (x ∷ xs) = grind (arith, others_mapped f same stays xs)
 
   -- a test that passes one's own alone
   pub own_any : (p : A → Bool) → ((x : A) → (number x == c) ≡ false → p x ≡ false) → (xs : List A) → list_any p (filter (λ x. number x == c) xs) ≡ list_any p xs
   own_any p its_own [] = refl
-  own_any p its_own (x ∷ xs) = ⊎_elim
-      (λ (its : (number x == c) ≡ true). rw its (ap (λ b. p x || b) (own_any p its_own xs)))
-      (λ (far : (number x == c) ≡ false). rw (far, its_own x far) (own_any p its_own xs))
-      (cases_Bool (number x == c))
+  own_any p its_own (x ∷ xs) = grind (arith, own_any p its_own xs)
 
   -- where none of all passes, none of one's own does
   pub own_none : (p : A → Bool) (xs : List A) → list_any p xs ≡ false → list_any p (filter (λ x. number x == c) xs) ≡ false
@@ -58,51 +35,22 @@ module _ {A : Type 0} (number : A → ℕ) (c : ℕ) where
   -- what leaves all that pass leaves one's own of them
   pub own_filtered : (p : A → Bool) (xs : List A) → filter (λ x. number x == c) (filter p xs) ≡ filter p (filter (λ x. number x == c) xs)
   own_filtered p [] = refl
-  own_filtered p (x ∷ xs) = ⊎_elim
-      (λ (its : (number x == c) ≡ true). ⊎_elim
-      (λ (y : p x ≡ true). rw (y, its, y) (ap (λ ys. x ∷ ys) (own_filtered p xs)))
-      (λ (n : p x ≡ false). rw (n, its, n) (own_filtered p xs))
-      (cases_Bool (p x)))
-      (λ (far : (number x == c) ≡ false). ⊎_elim
-      (λ (y : p x ≡ true). rw (y, far) (own_filtered p xs))
-      (λ (n : p x ≡ false). rw (n, far) (own_filtered p xs))
-      (cases_Bool (p x)))
-      (cases_Bool (number x == c))
+  own_filtered p (x ∷ xs) = grind (arith, own_filtered p xs)
 
   -- what lets go of one's own alone leaves the others
   pub others_filtered : (p : A → Bool) → ((x : A) → (number x == c) ≡ false → p x ≡ true) → (xs : List A) → filter (λ x. not (number x == c)) (filter p xs) ≡ filter (λ x. not (number x == c)) xs
   others_filtered p stays [] = refl
-  others_filtered p stays (x ∷ xs) = ⊎_elim
-      (λ (its : (number x == c) ≡ true). ⊎_elim
-      (λ (y : p x ≡ true). rw (y, its) (others_filtered p stays xs))
-      (λ (n : p x ≡ false). rw (n, its) (others_filtered p stays xs))
-      (cases_Bool (p x)))
-      (λ (far : (number x == c) ≡ false). rw (stays x far, far) (ap (λ ys. x ∷ ys) (others_filtered p stays xs)))
-      (cases_Bool (number x == c))
+  others_filtered p stays (x ∷ xs) = grind (arith, others_filtered p stays xs)
 
   -- of the others none is one's own
   pub none_own : (xs : List A) → filter (λ x. number x == c) (filter (λ x. not (number x == c)) xs) ≡ []
   none_own [] = refl
-  none_own (x ∷ xs) = ⊎_elim
-      (λ (its : (number x == c) ≡ true). rw its (none_own xs))
-      (λ (far : (number x == c) ≡ false). rw (far, far) (none_own xs))
-      (cases_Bool (number x == c))
+  none_own (x ∷ xs) = grind (arith, none_own xs)
 
   -- those of another number stand among the others
   pub own_others : (d : ℕ) → (d == c) ≡ false → (xs : List A) → filter (λ x. number x == d) (filter (λ x. not (number x == c)) xs) ≡ filter (λ x. number x == d) xs
   own_others d apart [] = refl
-  own_others d apart (x ∷ xs) = ⊎_elim
-      (λ (its : (number x == c) ≡ true).
-      let off : (number x == d) ≡ false = ap (λ n. n == d) (eqb-true (number x) c its) ∙ sym_eqb c d ∙ apart in
-      rw (its, off) (own_others d apart xs))
-      (λ (far : (number x == c) ≡ false). rw far (by (number x == d) (own_others d apart xs)))
-      (cases_Bool (number x == c))
-    where
-      by : (b : Bool) → filter (λ x. number x == d) (filter (λ x. not (number x == c)) xs) ≡ filter (λ x. number x == d) xs
-          → cond b (x ∷ filter (λ x. number x == d) (filter (λ x. not (number x == c)) xs)) (filter (λ x. number x == d) (filter (λ x. not (number x == c)) xs))
-          ≡ cond b (x ∷ filter (λ x. number x == d) xs) (filter (λ x. number x == d) xs)
-      by true rest = ap (λ ys. x ∷ ys) rest
-      by false rest = rest
+  own_others d apart (x ∷ xs) = grind (arith, own_others d apart xs)
 
 -- ---- what is looked up
 
@@ -112,10 +60,7 @@ far_call id l far = rw far refl
 -- what ended its context
 pub peer_own : (new : Ended) (c : ℕ) (ps : List PeerValue) → ended_peer new c (own_peers c ps) ≡ ended_peer new c ps
 peer_own new c [] = refl
-peer_own new c (p ∷ ps) = ⊎_elim
-    (λ (its : (p.number == c) ≡ true). rw (its, its) refl)
-    (λ (far : (p.number == c) ≡ false). rw far (peer_own new c ps))
-    (cases_Bool (p.number == c))
+peer_own new c (p ∷ ps) = grind (arith, peer_own new c ps)
 
 pub ends_own : (c : ℕ) (v : ContextsValue) → ends_of (own_contexts c v) c ≡ ends_of v c
 ends_own c v = peer_own (by_drain v.drained) c v.conns
@@ -182,10 +127,7 @@ told_own Drained c v =
     (own_mapped (λ (l : LifeValue). l.id.conn) c (λ l. ends_life (by_drain true) l) (λ l. refl) v.calls)
 
 same_number : (id : CallId) (f : LifeValue → List TimedBranch) (l : LifeValue) → (if is_call l.id id then with_branches (f l) l else l).id.conn ≡ l.id.conn
-same_number id f l = ⊎_elim
-    (λ (y : is_call l.id id ≡ true). rw y refl)
-    (λ (n : is_call l.id id ≡ false). rw n refl)
-    (cases_Bool (is_call l.id id))
+same_number id f l = grind arith
 
 pub branches_own : (c : ℕ) (id : CallId) (f : LifeValue → List TimedBranch) (v : ContextsValue) → own_contexts c (on_branches id f v) ≡ on_branches id f (own_contexts c v)
 branches_own c id f v = ap (contexts_value v.drained (own_peers c v.conns))
@@ -219,11 +161,7 @@ pub keeps_leaves : (c : ℕ) (v w : ContextsValue) → KeepsOthers c v w → Lea
 keeps_leaves c v w keeps = record { drained_is = keeps.drained_is; conns_are = ap (other_peers c) keeps.conns_are; calls_are = keeps.others_are }
 
 pub opened_leaves : (c : ℕ) (v : ContextsValue) → LeavesContexts c v (opened c v)
-opened_leaves c v = record {
-  drained_is = refl;
-  conns_are = others_pushed (λ (p : PeerValue). not (p.number == c)) v.conns (peer c (by_drain v.drained)) (ap not (eq-eqb c c refl));
-  calls_are = refl;
-}
+opened_leaves c v = grind (arith, nat_tests, others_pushed, eq-eqb)
 
 pub without_leaves : (id : CallId) (v : ContextsValue) → LeavesContexts id.conn v (without id v)
 without_leaves id v = record {
@@ -269,23 +207,12 @@ module _ {H : Type 0} where
   others_same c v w leaves same = record { contexts = leaves; stocks = λ d stock apart is. ap (stock_in d) (sym same) ∙ is }
 
   pub others_taken : (c : ℕ) (v w : HookedContexts H) → LeavesContexts c v.standing w.standing → TakesAtMostOne c v w → LeavesOthers c v w
-  others_taken c v w leaves takes = record {
-    contexts = leaves;
-    stocks = λ d stock apart is. ⊎_elim
-        (λ (same : stock_in d v.stocks ≡ Some stock). same)
-        (λ (one : (d ≡ c) × ((hook : H) × (stock_in d v.stocks ≡ Some (hook ∷ stock)))). absurd (let clash : true ≡ false = sym (eq-eqb d c one.0) ∙ apart in cc))
-        (takes d stock is);
-  }
+  others_taken c v w leaves takes = grind arith
 
   -- a connection's stock is dropped
   pub dropped_in : (c d : ℕ) (ss : Stocks H) → (d == c) ≡ false → stock_in d (filter (λ s. not (s.0 == c)) ss) ≡ stock_in d ss
   dropped_in c d [] far = refl
-  dropped_in c d (s ∷ ss) far = ⊎_elim
-      (λ (y : (s.0 == c) ≡ true).
-      let off : (s.0 == d) ≡ false = ap (λ k. k == d) (eqb-true s.0 c y) ∙ sym_eqb c d ∙ far in
-      rw (y, off) (dropped_in c d ss far))
-      (λ (n : (s.0 == c) ≡ false). rw n (ap (λ o. if s.0 == d then Some s.1 else o) (dropped_in c d ss far)))
-      (cases_Bool (s.0 == c))
+  dropped_in c d (s ∷ ss) far = grind (arith, dropped_in c d ss far)
 
   pub others_closed : (c : ℕ) (v w : HookedContexts H) → w.standing ≡ closed c v.standing → DropsHooks c v w → LeavesOthers c v w
   others_closed c v w is drops = record {
@@ -299,10 +226,7 @@ module _ {H : Type 0} where
   brought_in c d stock (s ∷ ss) far = ap (λ o. if s.0 == d then Some s.1 else o) (brought_in c d stock ss far)
 
   pub others_opened : (c : ℕ) (stock : List H) (v w : HookedContexts H) → w.standing ≡ opened c v.standing → BringsHooks c stock v w → LeavesOthers c v w
-  others_opened c stock v w is brings = record {
-    contexts = subst (LeavesContexts c v.standing) (sym is) (opened_leaves c v.standing);
-    stocks = λ d hooks apart it. sym (brought_in c d stock v.stocks apart) ∙ ap (stock_in d) (sym brings.stocks_are) ∙ it;
-  }
+  others_opened c stock v w is brings = grind (arith, nat_tests, opened_leaves, brought_in)
 
   pub others_none : (c : ℕ) (v : HookedContexts H) → LeavesOthers c v v
   others_none c v = record { contexts = leaves_none c v.standing; stocks = λ d stock apart is. is }

@@ -1,26 +1,8 @@
 -- The contexts of a connection that are over are those of the calls that end; where none is, nothing of it changes.
-use Rattle.std.proofs.Common.{◌≡◌, ℕ, suc, refl, sym, ap, ◌∙◌, List, [], ◌∷◌, Option, Some, None, Bool, true, false, ⊎_elim, map}
-use Rattle.std.specs.Prelude.{◌||◌, ◌&&◌, ◌==◌, if◌then◌else◌, is_none, is_some, nat_le}
-use Rattle.std.specs.Option.{option_or}
-use Rattle.std.specs.List.{list_any}
-use Rattle.std.proofs.lemmas.Bool.{cases_Bool, or_parts}
-use Rattle.std.proofs.lemmas.List.Folds.{list_any-append}
+use Rattle.std.specs.Prelude.{◌≡◌, ◌∷◌, ◌||◌, ◌&&◌, ◌==◌, if◌then◌else◌}
+use Rattle.gateway_connection.specs.lemmas.Names.{ℕ, suc, refl, sym, ap, ◌∙◌, List, [], Option, Some, None, Bool, true, false, ⊎_elim, map, arith, is_none, is_some, nat_le, option_or, list_any, cases_Bool, or_parts, list_any-append, ended_held, HeldConnection, KeptValue, Live, call_at, is_call, is_due, least_of, smaller, CallEvent, ReplyEntry, CallId, caused, ended_call, ended_kept, deadlines_in, ended_by, Trigger, Reached, HungUp, Drained, or_false, or_none, same_call, TimedBranch, by_deadline, by_hang_up, has_due, is_over, Over, life_in, linked_calls, lives_in, none_over, over_by, timed, nat_tests}
 use Rattle.gateway_theory.specs.Connection.{filled}
-use Rattle.gateway_theory.specs.Held.{ended_entry, ended_held}
-use Rattle.gateway_theory.specs.Values.{HeldConnection, KeptValue, Live, call_at}
-use Rattle.gateway_model.specs.Past.{call_id, is_call, is_due, least_of, smaller}
-use Rattle.gateway_model.specs.declared.call_event.CallEvent.{CallEvent}
-use Rattle.gateway_model.specs.declared.entry.ReplyEntry.{ReplyEntry}
-use Rattle.gateway_model.specs.declared.id.CallId.{CallId}
-use Rattle.gateway_theory.specs.Ends.{caused, ended_call, ended_kept}
-use Rattle.gateway_theory.specs.Step.{deadlines_in, ended_by}
-use Rattle.gateway_theory.specs.declared.trigger.Trigger.{Trigger}
-use Rattle.gateway_theory.specs.declared.trigger.Trigger.TheVariants.{Reached, HungUp, Drained}
-use Rattle.gateway_theory.specs.lemmas.Cases.{or_false, or_none}
 use Rattle.gateway_theory.specs.lemmas.Deadlines.{due_smaller}
-use Rattle.gateway_theory.specs.lemmas.LimitLemmas.{same_call}
-use Rattle.gateway_replies.specs.Contexts.{TimedBranch, by_deadline, by_hang_up, has_due, is_over}
-use Rattle.gateway_connection.specs.Linked.{Over, life_in, linked_calls, lives_in, none_over, over_by, timed}
 
 -- the call ends by this
 abbrev pub ends_by : Trigger → KeptValue → Bool
@@ -29,11 +11,7 @@ ends_by trigger k = is_some (ended_call trigger k.id k.call).reply
 -- ---- one call
 
 reached_is : (now : ℕ) (d : Option ℕ) → is_some (by_deadline now d) ≡ is_due now d
-reached_is now d = by (is_due now d) refl
-  where
-    by : (b : Bool) → is_due now d ≡ b → is_some (by_deadline now d) ≡ is_due now d
-    by true is = rw is refl
-    by false is = rw is refl
+reached_is now d = grind arith
 
 reached_none : (now : ℕ) (d : Option ℕ) → is_due now d ≡ false → by_deadline now d ≡ None
 reached_none now d is = rw is refl
@@ -56,11 +34,7 @@ never_ended over id call k (None ∷ ds) never = never_ended over id call (suc k
 never_ended over id call k (Some at ∷ ds) never = rw (never call, never (Some at)) (never_ended over id call (suc k) ds never)
 
 due_is_some : (now : ℕ) (id : CallId) (l : Live) (outs : List (Option ℕ)) → is_some (caused (Reached now) id l.asked outs) ≡ is_due now (smaller l.asked.deadline (least_of outs))
-due_is_some now id l outs = by (is_due now (smaller l.asked.deadline (least_of outs))) refl
-  where
-    by : (b : Bool) → is_due now (smaller l.asked.deadline (least_of outs)) ≡ b → is_some (caused (Reached now) id l.asked outs) ≡ is_due now (smaller l.asked.deadline (least_of outs))
-    by true is = rw is refl
-    by false is = rw is refl
+due_is_some now id l outs = grind arith
 
 life_over : (t : Trigger) (id : CallId) (out : List Bool) (l : Live) → is_over (life_in (over_by t) id out l) ≡ is_some (caused t id l.asked (deadlines_in out l.deadlines))
 life_over (Reached now) id out l =
@@ -88,11 +62,7 @@ reply_is None l out = refl
 reply_is (Some e) l out = refl
 
 one_over : (t : Trigger) (k : KeptValue) → list_any is_over (lives_in (over_by t) k) ≡ ends_by t k
-one_over t k = by k.call.live refl
-  where
-    by : (o : Option Live) → k.call.live ≡ o → list_any is_over (lives_in (over_by t) k) ≡ ends_by t k
-    by None o_is = rw o_is refl
-    by (Some l) o_is = rw o_is (or_false (is_over (life_in (over_by t) k.id k.call.out l)) ∙ life_over t k.id k.call.out l ∙ sym (reply_is (caused t k.id l.asked (deadlines_in k.call.out l.deadlines)) l k.call.out))
+one_over t k = grind (arith, nat_tests, or_false, life_over, reply_is)
 
 -- ---- all of a connection
 
@@ -107,14 +77,7 @@ is_none_of None free = refl
 is_none_of (Some a) free = cc
 
 kept_same : (t : Trigger) (k : KeptValue) → ends_by t k ≡ false → ended_kept t k ≡ k
-kept_same t k none = by k.call.live refl
-  where
-    by : (o : Option Live) → k.call.live ≡ o → ended_kept t k ≡ k
-    by None o_is = rw o_is refl
-    by (Some l) o_is =
-        let e : caused t k.id l.asked (deadlines_in k.call.out l.deadlines) ≡ None = is_none_of (caused t k.id l.asked (deadlines_in k.call.out l.deadlines))
-        (sym (reply_is (caused t k.id l.asked (deadlines_in k.call.out l.deadlines)) l k.call.out) ∙ rw o_is at none) in
-        rw (o_is, e) refl
+kept_same t k none = grind arith
 
 pub calls_same : (t : Trigger) (ks : List KeptValue) → list_any (ends_by t) ks ≡ false → map (ended_kept t) ks ≡ ks
 calls_same t [] none = refl
@@ -139,9 +102,7 @@ none_filled reply none k (s ∷ slots) = ap (λ r. option_or s r ∷ filled repl
 
 -- where none of its calls ends, nothing of it changes
 pub held_same : (t : Trigger) (k : HeldConnection) → list_any (ends_by t) k.calls ≡ false → k ≡ ended_held t k
-held_same t k none = sym (
-    ap (λ slots. record k { slots = slots; calls = map (ended_kept t) k.calls }) (none_filled (ended_entry t k) (λ r. none_replies t (call_id k.number r) k.calls none) k.taken k.slots)
-    ∙ ap (λ calls. record k { calls = calls }) (calls_same t k.calls none))
+held_same t k none = grind (arith, nat_tests, none_filled, none_replies, calls_same)
 
 -- ---- which are due
 

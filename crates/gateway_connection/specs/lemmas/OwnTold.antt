@@ -1,21 +1,6 @@
 -- What may end calls is told to all contexts: those of a connection have ended by it as its calls say.
-use Rattle.std.proofs.Common.{◌≡◌, ℕ, suc, refl, sym, ap, ◌∙◌, List, [], ◌∷◌, ◌++◌, Option, Some, None, Bool, true, false, map}
-use Rattle.std.specs.Prelude.{◌||◌, ◌==◌, if◌then◌else◌}
-use Rattle.std.specs.Option.{option_or}
-use Rattle.std.proofs.lemmas.Bool.{eq-eqb}
-use Rattle.std.proofs.lemmas.List.{map-append}
-use Rattle.call_contexts.specs.Standing.{ends_branch, expires_branch}
-use Rattle.gateway_theory.specs.Held.{hung_held}
-use Rattle.gateway_theory.specs.Values.{HeldConnection, KeptValue, Live}
-use Rattle.gateway_model.specs.declared.id.CallId.{CallId}
-use Rattle.gateway_theory.specs.Step.{deadlines_in}
-use Rattle.gateway_theory.specs.declared.trigger.Trigger.{Trigger}
-use Rattle.gateway_theory.specs.declared.trigger.Trigger.TheVariants.{Reached, HungUp, Drained}
-use Rattle.gateway_theory.specs.lemmas.Cases.{sym_eqb}
-use Rattle.gateway_replies.specs.Contexts.{ContextsValue, Ended, LifeValue, PeerValue, TimedBranch, by_deadline, by_drain, by_hang_up, contexts_value, ends_life, ends_of, ends_peer, expires_life, peer, told}
-use Rattle.gateway_replies.specs.Hooks.{HookedContexts, KeepsHooks, stock_in}
-use Rattle.gateway_connection.specs.Linked.{Over, life_in, linked_calls, lives_in, none_over, over_by, timed}
-use Rattle.gateway_connection.specs.OwnContexts.{IsTied, linked_conn, own_contexts}
+use Rattle.std.specs.Prelude.{◌≡◌, ◌∷◌, ◌||◌, ◌==◌, if◌then◌else◌}
+use Rattle.gateway_connection.specs.lemmas.Names.{ℕ, suc, refl, sym, ap, ◌∙◌, List, [], Option, Some, None, Bool, true, false, map, arith, option_or, eq-eqb, ends_branch, hung_held, HeldConnection, KeptValue, Live, CallId, deadlines_in, Trigger, Reached, HungUp, Drained, sym_eqb, ContextsValue, Ended, LifeValue, PeerValue, TimedBranch, by_drain, by_hang_up, contexts_value, ends_life, ends_of, expires_life, peer, told, HookedContexts, KeepsHooks, stock_in, Over, life_in, linked_calls, none_over, over_by, timed, IsTied, linked_conn, own_contexts, nat_tests}
 use Rattle.gateway_connection.specs.lemmas.OwnContexts.{ends_own, told_own}
 use Rattle.gateway_connection.specs.lemmas.OwnTies.{ends_linked, relinked}
 
@@ -33,14 +18,7 @@ timed_told g over id call each k (Some at ∷ ds) =
 lives_told : (h : LifeValue → LifeValue) (over : Over) → ((id : CallId) (out : List Bool) (l : Live) → h (life_in none_over id out l) ≡ life_in over id out l) → (ks : List KeptValue)
     → map h (linked_calls none_over ks) ≡ linked_calls over ks
 lives_told h over same [] = refl
-lives_told h over same (k ∷ ks) =
-    map-append h (lives_in none_over k) (linked_calls none_over ks)
-    ∙ ap (λ ls. map h (lives_in none_over k) ++ ls) (lives_told h over same ks)
-    ∙ ap (λ ls. ls ++ linked_calls over ks) (by k.call.live refl)
-  where
-    by : (o : Option Live) → k.call.live ≡ o → map h (lives_in none_over k) ≡ lives_in over k
-    by None o_is = rw o_is refl
-    by (Some l) o_is = rw o_is (ap (λ x. x ∷ []) (same k.id k.call.out l))
+lives_told h over same (k ∷ ks) = grind (arith, lives_told h over same ks)
 
 or_itself : (e : Ended) → e ≡ option_or e e
 or_itself None = refl
@@ -51,16 +29,10 @@ abbrev life_of : CallId → Live → Ended → List TimedBranch → LifeValue
 life_of id l ended branches = record { id = id; deadline = l.asked.deadline; request_id = l.asked.request_id; ended = ended; branches = branches }
 
 reached_life : (now : ℕ) (id : CallId) (out : List Bool) (l : Live) → expires_life now (life_in none_over id out l) ≡ life_in (over_by (Reached now)) id out l
-reached_life now id out l =
-    ap (life_of id l (by_deadline now l.asked.deadline))
-    (timed_told (λ (b : TimedBranch). expires_branch now (ends_branch (by_deadline now l.asked.deadline) b)) (over_by (Reached now)) id l.asked.deadline (λ k at. refl) 0 (deadlines_in out l.deadlines))
+reached_life now id out l = grind (arith, nat_tests, timed_told)
 
 hung_life : (c : ℕ) (id : CallId) (out : List Bool) (l : Live) → ends_life (by_hang_up (id.conn == c)) (life_in none_over id out l) ≡ life_in (over_by (HungUp c)) id out l
-hung_life c id out l =
-    ap (λ b. ends_life (by_hang_up b) (life_in none_over id out l)) (sym_eqb id.conn c)
-    ∙ ap (life_of id l (by_hang_up (c == id.conn)))
-    (timed_told (ends_branch (by_hang_up (c == id.conn))) (over_by (HungUp c)) id l.asked.deadline
-    (λ k at. ap (λ e. record { branch = k; deadline = at; ended = e }) (or_itself (by_hang_up (c == id.conn)))) 0 (deadlines_in out l.deadlines))
+hung_life c id out l = grind (arith, nat_tests, sym_eqb, timed_told, or_itself)
 
 drained_life : (id : CallId) (out : List Bool) (l : Live) → ends_life (by_drain true) (life_in none_over id out l) ≡ life_in (over_by Drained) id out l
 drained_life id out l =
@@ -77,20 +49,11 @@ peers_told f n ended after same true = refl
 peers_told f n ended after same false = ap (λ p. p ∷ []) same
 
 drained_linked : (ended : Ended) (drained : Bool) (k : HeldConnection) → told Drained (linked_conn ended drained none_over k) ≡ linked_conn (option_or ended (by_drain true)) true (over_by Drained) k
-drained_linked ended drained k =
-    ap (λ ps. contexts_value true ps (map (λ l. ends_life (by_drain true) l) (linked_calls none_over k.calls)))
-    (peers_told (λ p. ends_peer (by_drain true) p) k.number ended (option_or ended (by_drain true)) refl (k.closed || k.broken))
-    ∙ ap (contexts_value true (if k.closed || k.broken then [] else peer k.number (option_or ended (by_drain true)) ∷ []))
-    (lives_told (λ l. ends_life (by_drain true) l) (over_by Drained) drained_life k.calls)
+drained_linked ended drained k = grind (arith, nat_tests, peers_told, lives_told, drained_life)
 
 hung_linked : (ended : Ended) (drained : Bool) (k : HeldConnection)
     → told (HungUp k.number) (linked_conn ended drained none_over k) ≡ linked_conn (option_or ended (by_hang_up true)) drained (over_by (HungUp k.number)) (hung_held k)
-hung_linked ended drained k =
-    ap (λ ps. contexts_value drained ps (map (λ l. ends_life (by_hang_up (l.id.conn == k.number)) l) (linked_calls none_over k.calls)))
-    (peers_told (λ p. ends_peer (by_hang_up (p.number == k.number)) p) k.number ended (option_or ended (by_hang_up true))
-    (ap (λ b. peer k.number (option_or ended (by_hang_up b))) (eq-eqb k.number k.number refl)) (k.closed || k.broken))
-    ∙ ap (contexts_value drained (if k.closed || k.broken then [] else peer k.number (option_or ended (by_hang_up true)) ∷ []))
-    (lives_told (λ l. ends_life (by_hang_up (l.id.conn == k.number)) l) (over_by (HungUp k.number)) (hung_life k.number) k.calls)
+hung_linked ended drained k = grind (arith, nat_tests, peers_told, eq-eqb, lives_told, hung_life)
 
 -- ---- it is tied to what has ended so
 

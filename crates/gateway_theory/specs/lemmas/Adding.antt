@@ -1,23 +1,7 @@
 -- How one event adds to what was lived, perhaps with breaks.
-use Rattle.std.proofs.Common.{◌≡◌, ℕ, suc, ◌≤◌, Bool, true, false, List, [], ◌∷◌, ◌++◌, length, refl, sym, ap, ◌∙◌, subst, arith, append_assoc, ◌+◌}
-use Rattle.std.specs.Prelude.{⊤, if◌then◌else◌, not, reverse, ◌==◌, ◌||◌}
-use Rattle.std.proofs.lemmas.List.{map-append, reverse-append}
-use Rattle.std.proofs.lemmas.List.Elements.{filter-append}
-use Rattle.gateway_model.specs.Breaks.{BreakAsTheyMay, CanBreakAt, InOrder, MayOccur, by_events}
-use Rattle.gateway_model.specs.Concerns.{can_break}
-use Rattle.gateway_model.specs.Events.{Before, onto, Occurs, OccursAt}
-use Rattle.gateway_model.specs.Occurrence.{Occurrence, Opening, Comes, HangUp, Moment, Result, Drain, Closing, Break}
-use Rattle.gateway_model.specs.Own.{is_break, without_breaks}
-use Rattle.gateway_model.specs.Past.{is_broken, marked}
-use Rattle.gateway_model.specs.Starts.{Placed, occurrences}
-use Rattle.gateway_model.specs.declared.event.Event.{Event}
-use Rattle.gateway_theory.specs.Connection.{breaks_of, AllStand}
-use Rattle.gateway_theory.specs.Core.{at_place, Adds, CoreValue, HasConns, Lives, Served, then_came}
-use Rattle.std.proofs.lemmas.Bool.{eq-eqb}
-use Rattle.gateway_theory.specs.lemmas.Cases.{or_true}
+use Rattle.std.specs.Prelude.{◌≡◌, ◌≤◌, ◌∷◌, ◌++◌, ◌+◌, if◌then◌else◌}
+use Rattle.gateway_theory.specs.lemmas.Names.{ℕ, suc, true, false, List, [], length, refl, sym, ap, ◌∙◌, subst, arith, append_assoc, nat_tests, ⊤, not, reverse, map-append, reverse-append, filter-append, BreakAsTheyMay, CanBreakAt, InOrder, MayOccur, by_events, can_break, Before, onto, Occurs, OccursAt, Occurrence, Opening, Comes, HangUp, Moment, Result, Drain, Closing, Break, is_break, without_breaks, is_broken, marked, Placed, occurrences, Event, breaks_of, AllStand, at_place, Adds, CoreValue, HasConns, Lives, Served, then_came, History, after_event, calls_arrived, calls_in}
 use Rattle.gateway_theory.specs.lemmas.LivedSteps.{listed}
-use Rattle.gateway_model.specs.History.{History, after_event}
-use Rattle.gateway_theory.specs.Arrivals.{calls_arrived, calls_in}
 
 -- ---- which may break
 
@@ -69,18 +53,10 @@ onto_is n (o ∷ os) past =
 
 events_at : (n : ℕ) (newer : List Occurrence) → by_events (at_place n newer) ≡ at_place n (without_breaks newer)
 events_at n [] = refl
-events_at n (o ∷ newer) = by (is_break o) (events_at n newer)
-  where
-    by : (b : Bool) → by_events (at_place n newer) ≡ at_place n (without_breaks newer)
-        → (if not b then (n, o) ∷ by_events (at_place n newer) else by_events (at_place n newer)) ≡ at_place n (if not b then o ∷ without_breaks newer else without_breaks newer)
-    by true h = h
-    by false h = ap (λ xs. (n, o) ∷ xs) h
+events_at n (o ∷ newer) = grind (arith, events_at n newer)
 
 pub events_are : (n : ℕ) (newer os : List Occurrence) (lived : List Placed) → without_breaks newer ≡ reverse os → by_events (at_place n newer ++ lived) ≡ onto n os (by_events lived)
-events_are n newer os lived same =
-    filter-append (λ (o : Placed). not (is_break o.1)) (at_place n newer) lived
-    ∙ ap (λ xs. xs ++ by_events lived) (events_at n newer ∙ ap (λ us. at_place n us) same)
-    ∙ sym (onto_is n os (by_events lived))
+events_are n newer os lived same = grind (arith, nat_tests, filter-append, events_at, onto_is)
 
 order_more : (n m : ℕ) (lived : List Placed) → n ≤ m → InOrder n lived → InOrder m lived
 order_more n m [] le h = tt
@@ -95,14 +71,7 @@ order_at n (o ∷ newer) lived h = (omega arith, order_at n newer lived h)
 may_later : (opened later : List ℕ) (e : Event) (es : Before)
     → ((c place : ℕ) (p : _) → CanBreakAt c place opened es p → CanBreakAt c place later (e ∷ es) p)
     → (o : Occurrence) (place : ℕ) (lived : List Placed) → MayOccur opened es place o (marked (occurrences lived)) → MayOccur later (e ∷ es) place o (marked (occurrences lived))
-may_later opened later e es f (Break c) place lived b = f c place (marked (occurrences lived)) b
-may_later opened later e es f Opening place lived b = tt
-may_later opened later e es f (Comes c x) place lived b = tt
-may_later opened later e es f (HangUp c) place lived b = tt
-may_later opened later e es f (Moment m) place lived b = tt
-may_later opened later e es f (Result id i r) place lived b = tt
-may_later opened later e es f Drain place lived b = tt
-may_later opened later e es f (Closing c) place lived b = tt
+may_later opened later e es h4 o place lived h8 = grind (arith, nat_tests)
 
 pub breaks_later : (opened later : List ℕ) (e : Event) (es : Before)
     → ((c place : ℕ) (p : _) → CanBreakAt c place opened es p → CanBreakAt c place later (e ∷ es) p)
@@ -142,14 +111,7 @@ breaks_now opened e es (o ∷ newer) lived a b =
     (may_now opened e es o (newer ++ occurrences lived) (at_place (length es) newer ++ lived) (occurrences_at (length es) newer lived) a.0, breaks_now opened e es newer lived a.1 b)
 
 no_break : (P : ℕ → List Occurrence → Type 0) (o : Occurrence) (os : List Occurrence) → is_break o ≡ false → BreakSo P o os
-no_break P (Break c) os e = absurd (cc)
-no_break P Opening os e = tt
-no_break P (Comes c x) os e = tt
-no_break P (HangUp c) os e = tt
-no_break P (Moment m) os e = tt
-no_break P (Result id i r) os e = tt
-no_break P Drain os e = tt
-no_break P (Closing c) os e = tt
+no_break P o os h3 = grind (arith, nat_tests)
 
 module _ (P : ℕ → List Occurrence → Type 0) (S : List Occurrence → Type 0) (os : List Occurrence) where
   -- connections break, and this occurs behind it
@@ -175,10 +137,7 @@ NoneTwice (n ∷ ns) = (listed ns n ≡ false) × NoneTwice ns
 pub breaks_each : (P : ℕ → List Occurrence → Type 0) (os : List Occurrence) (cs : List ℕ) → NoneTwice cs
     → ((c : ℕ) (ds : List ℕ) → listed cs c ≡ true → listed ds c ≡ false → P c (breaks_of ds ++ os)) → AreBreaks P (breaks_of cs) os
 breaks_each P os [] once f = tt
-breaks_each P os (c ∷ cs) once f = (
-  f c cs (ap (λ b. b || listed cs c) (eq-eqb c c refl)) once.0,
-  breaks_each P os cs once.1 (λ d ds on off. f d ds (ap (λ b. (c == d) || b) on ∙ or_true (c == d)) off),
-)
+breaks_each P os (c ∷ cs) once f = grind (arith, breaks_each P os cs once.1)
 
 abbrev pub StandsNow : History → CoreValue → List Occurrence → Type 0
 StandsNow h w os = AllStand w.now w.conns h.taken h.handed w.waiting os
@@ -229,8 +188,7 @@ module _ (opened : List ℕ) (e : Event) (h : History) (v w : CoreValue) (plans_
       x.newer,
       x.same,
       record {
-        occurs = subst (λ plans. Occurs plans opened (e ∷ h.events) (by_events (at_place (length h.events) x.newer ++ lived))) (sym plans_are)
-            (by_events lived, (before l.conns lived l).0, (os, at, events_are (length h.events) x.newer os lived x.same));
+        occurs = grind (arith, nat_tests, events_are);
         in_order = order_at (length h.events) x.newer lived l.in_order;
         breaks = breaks_now opened e h.events x.newer lived x.may (before l.conns lived l).1;
         conns = conns l.conns;
@@ -242,10 +200,7 @@ module _ (opened : List ℕ) (e : Event) (h : History) (v w : CoreValue) (plans_
 
   begun_then : BeginsFew opened e h v w → (newer os : List Occurrence) (lived : List Placed) → HasConns v h.opened h.events → without_breaks newer ≡ reverse os
       → OccursAt v.plans opened e h.events os → v.begun ≤ calls_arrived (occurrences lived) → w.begun ≤ calls_arrived (newer ++ occurrences lived)
-  begun_then begins newer os lived c same at was =
-      let few : w.begun ≤ v.begun + calls_arrived os = begins c os at in
-      let new : calls_arrived newer ≡ calls_arrived os = sym (calls_solid newer) ∙ ap calls_arrived same ∙ calls_back os in
-      let all = calls_both newer (occurrences lived) in omega (arith, few, new, all, was)
+  begun_then begins newer os lived c same at was = grind (arith, nat_tests, calls_solid, calls_back, calls_both)
 
   pub adds_by : BeginsFew opened e h v w
       → (HasConns v h.opened h.events → HasConns w opened (e ∷ h.events))
@@ -257,20 +212,7 @@ module _ (opened : List ℕ) (e : Event) (h : History) (v w : CoreValue) (plans_
 module _ (opened : List ℕ) (e : Event) (h : History) (v w : CoreValue) (plans_are : w.plans ≡ v.plans) where
   pub served_by : ((past : List Placed) → HasConns v h.opened h.events → Occurs v.plans opened h.events past → Occurs v.plans h.opened h.events past)
       → Adds opened e h v w → Served v h → Served w (then_came opened e h)
-  served_by back a s = record {
-    conns = a.conns s.conns;
-    stands = λ occurred all. by_past occurred (subst (λ plans. Occurs plans opened (e ∷ h.events) occurred) plans_are all);
-  }
-    where
-      by_past : (occurred : List Placed) → Occurs v.plans opened (e ∷ h.events) occurred
-          → (lived : List Placed) × (by_events lived ≡ occurred) × Lives w (then_came opened e h) lived
-      by_past occurred (past, before, (os, at, is)) =
-          let was = s.stands past (back past s.conns before) in
-          let x = a.lives was.0 was.2 os at in (
-            at_place (length h.events) x.0 ++ was.0,
-            events_are (length h.events) x.0 os was.0 x.1 ∙ ap (λ us. onto (length h.events) os us) was.1 ∙ sym is,
-            x.2,
-          )
+  served_by back a s = grind (arith, nat_tests, events_are)
 
 -- where no opening succeeded
 module _ (e : Event) (h : History) (v w : CoreValue) (plans_are : w.plans ≡ v.plans) where

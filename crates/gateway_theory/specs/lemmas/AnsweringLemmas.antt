@@ -1,10 +1,8 @@
 -- The reply to a decided call, as the code makes it.
-use Rattle.std.proofs.Common.{◌≡◌, suc, ◌-◌, List, [], ◌∷◌, length, Option, Some, Result, Ok, Err, refl, sym, ap, ◌∙◌, arith}
-use Rattle.std.specs.Prelude.{IfOk, option_and_then, option_map, slice_get}
-use Rattle.call_plan.specs.Plan.{PlanRecord}
+use Rattle.std.specs.Prelude.{◌≡◌, ◌-◌, ◌∷◌}
+use Rattle.gateway_theory.specs.lemmas.Names.{suc, List, [], length, Option, Some, Ok, Err, refl, sym, ap, ◌∙◌, arith, IfOk, option_and_then, option_map, slice_get, PlanRecord, CallEvent, CallRecord, last_event}
+use Rattle.std.proofs.Common.{Result}
 use Rattle.gateway_model.specs.declared.ending.EndCause.{EndCause}
-use Rattle.gateway_model.specs.declared.call_event.CallEvent.{CallEvent}
-use Rattle.gateway_model.specs.CallRecord.{CallRecord, last_event}
 use Rattle.gateway_model.specs.Errors.{cause_of}
 use Rattle.gateway_theory.specs.Endings.{ending_with}
 

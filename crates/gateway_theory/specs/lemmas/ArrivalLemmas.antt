@@ -1,8 +1,6 @@
 -- A request whose path names no plan is no call.
-use Rattle.std.proofs.Common.{◌≡◌, ℕ, ◌≤◌, Bool, false, List, Option, None, Some, sym, ◌∙◌}
-use Rattle.std.specs.Prelude.{IfSome, not, codes, bytes_eq}
-use Rattle.std.proofs.lemmas.Bool.{cond_both}
-use Rattle.http_pieces.specs.Request.{HttpRequest}
+use Rattle.std.specs.Prelude.{◌≡◌, ◌≤◌}
+use Rattle.gateway_theory.specs.lemmas.Names.{ℕ, Bool, false, List, Option, None, Some, sym, ◌∙◌, IfSome, not, codes, bytes_eq, cond_both, HttpRequest}
 use Rattle.http_pieces.specs.declared.largest.TheConstants.{MAX_DECIMAL}
 use Rattle.connect_codec.specs.Verdict.{verdict_of}
 use Rattle.connect_codec.specs.declared.verdict.Verdict.{Verdict}

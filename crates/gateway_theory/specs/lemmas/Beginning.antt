@@ -1,14 +1,8 @@
 -- What was taken of a connection begins what is queued for it.
-use Rattle.std.proofs.Common.{◌≡◌, ℕ, true, List, map, sym, ◌∙◌, subst}
+use Rattle.std.specs.Prelude.{◌≡◌}
+use Rattle.gateway_theory.specs.lemmas.Names.{ℕ, true, List, map, sym, ◌∙◌, subst, History, IsKnown, Shown, Occurrence, marked, IsPrefixOf, answer_of, queued, queued_entries, without_breaks, occurrences}
 use Rattle.gateway_model.specs.declared.reply_bytes.ReplyBytes.{ReplyBytes}
-use Rattle.gateway_model.specs.History.{History}
-use Rattle.gateway_model.specs.Known.{IsKnown, Shown}
-use Rattle.gateway_model.specs.Occurrence.{Occurrence}
-use Rattle.gateway_model.specs.Past.{marked}
-use Rattle.gateway_model.specs.Queue.{IsPrefixOf, answer_of, queued, queued_entries}
 use Rattle.gateway_model.specs.Run.{bytes_of}
-use Rattle.gateway_model.specs.Own.{without_breaks}
-use Rattle.gateway_model.specs.Starts.{occurrences}
 use Rattle.gateway_theory.specs.lemmas.PrefixLemmas.{events_occur, prefix_queue}
 use Rattle.gateway_theory.specs.lemmas.PastLemmas.{prefix-flat_map, prefix-map, prefix-trans}
 

@@ -1,33 +1,13 @@
 -- What comes on a stream: the call that it begins stands for what has occurred.
-use Rattle.std.proofs.Common.{◌≡◌, ℕ, ◌+◌, ◌≤◌, ◌<◌, ◌-◌, min, Bool, true, false, List, [], ◌∷◌, map, length, Option, None, Some, refl, sym, ap, ◌∙◌, arith, ⊎_elim}
-use Rattle.std.specs.Prelude.{is_none, if◌then◌else◌, nat_lt, option_and_then, slice_index_or}
-use Rattle.std.specs.Option.{option_map_or}
-use Rattle.std.specs.List.{range_with_len}
-use Rattle.std.proofs.lemmas.Bool.{cond_both, cases_Bool, cases_lt, le-ltb, eq-eqb}
-use Rattle.std.proofs.lemmas.List.FromFn.{get_or-map-range_with_len, length-map-range_with_len}
-use Rattle.std.proofs.Math.ListN.{get_or-eq_default}
-use Rattle.http_pieces.specs.Request.{HttpRequest, closes}
-use Rattle.call_plan.specs.Plan.{PlanRecord}
-use Rattle.gateway_model.specs.declared.id.CallId.{CallId}
-use Rattle.gateway_model.specs.Arrival.{Judged, Asks}
-use Rattle.gateway_model.specs.Job.{job_of}
-use Rattle.gateway_model.specs.Occurrence.{Occurrence, Comes, Coming, Request, Refused}
-use Rattle.gateway_model.specs.declared.call_event.CallEvent.{CallEvent}
-use Rattle.gateway_model.specs.declared.call_event.CallEvent.TheVariants.{Answer as Answered, Failed, Expired, BranchExpired, HungUp, Drained}
-use Rattle.gateway_model.specs.Past.{Mark, Past, ArrivedCall, call, arrivals, coming_now, asked_now, asked_by, began, answers, started, is_out, is_shut, is_drained, own_event, ends_at_arrival, decides, decided, branch_deadlines, is_due, now, crowds, mark_of, marked, branches}
+use Rattle.std.specs.Prelude.{◌≡◌, ◌+◌, ◌-◌, ◌∷◌}
+use Rattle.gateway_theory.specs.lemmas.Names.{ℕ, min, Bool, true, false, List, [], map, length, Option, None, Some, refl, sym, ap, ◌∙◌, arith, nat_tests, is_none, nat_lt, option_and_then, slice_index_or, option_map_or, range_with_len, le-ltb, eq-eqb, get_or-map-range_with_len, length-map-range_with_len, get_or-eq_default, HttpRequest, closes, PlanRecord, CallId, Judged, Asks, job_of, Occurrence, Comes, Coming, Request, Refused, CallEvent, Mark, Past, ArrivedCall, call, arrivals, coming_now, asked_now, asked_by, began, answers, started, is_out, is_shut, is_drained, own_event, ends_at_arrival, decides, decided, now, crowds, mark_of, marked, branches, ReplyEntry, Crowded as Crowding, came, own_events, entry_by, entry, call_entry, step_to, call_state, gone, is_live, tasks_from, Stepped, new_live, begun_live, first_ones, first_jobs, first_out, begins, arrive}
 use Rattle.gateway_theory.specs.lemmas.Deadlines.{branch_deadline, deadlines_first, deadlines_of}
-use Rattle.gateway_model.specs.declared.entry.ReplyEntry.{ReplyEntry}
-use Rattle.gateway_model.specs.declared.entry.ReplyEntry.TheVariants.{Refused as Refusing, Judged as Judging, Crowded as Crowding}
-use Rattle.gateway_model.specs.Queue.{came, own_events, entry_by, entry, call_entry}
-use Rattle.gateway_model.specs.Starts.{jobs_started, branches_started}
-use Rattle.gateway_theory.specs.lemmas.LimitLemmas.{out_started, unanswered, unbegun}
+use Rattle.gateway_model.specs.declared.entry.ReplyEntry.TheVariants.{Refused as Refusing, Judged as Judging}
+use Rattle.gateway_theory.specs.lemmas.LimitLemmas.{unanswered, unbegun}
 use Rattle.gateway_theory.specs.lemmas.Frame.{unbroken}
 use Rattle.gateway_theory.specs.lemmas.Unborn.{Unborn, unborn}
-use Rattle.gateway_theory.specs.Step.{step_to, ended, entry_with}
-use Rattle.gateway_theory.specs.Values.{call_state, gone}
-use Rattle.gateway_theory.specs.LiveStands.{is_live, tasks_from, Stepped}
+use Rattle.gateway_theory.specs.Step.{ended}
 use Rattle.gateway_theory.specs.lemmas.StepLemmas.{deadlines_now, call_entry_is, decided_shut, started_live}
-use Rattle.gateway_theory.specs.Begins.{new_live, begun_live, first_ones, first_jobs, first_out, begins, arrive}
 
 abbrev pub comes : CallId → Coming → Past → Mark
 comes id x past = mark_of past (Comes id.conn x)
@@ -46,9 +26,6 @@ entering_is id x os n = rw (eq-eqb (arrivals id.conn (marked os)) id.request n.n
 came_then : (id : CallId) (x : Coming) (os : List Occurrence) → IsNext id os
     → came id (comes id x (marked os) ∷ marked os) ≡ Some (x, crowds (Comes id.conn x) (marked os))
 came_then id x os n = rw ((nothing id os n).not_came, entering_is id x os n) refl
-
-entry_none : (id : CallId) (os : List Occurrence) → IsNext id os → entry id (marked os) ≡ None
-entry_none id os n = rw ((nothing id os n).not_came) refl
 
 -- what follows of the call where this is what it asks for
 pub record Asks_now (id : CallId) (x : Coming) (past : Past) (o : Option ArrivedCall) : Type 0 where
@@ -72,31 +49,12 @@ not_started_yet id os n = rw ((nothing id os n).not_begun) refl
 no_answers : (id : CallId) (x : Coming) (os : List Occurrence) → IsNext id os → answers id (comes id x (marked os) ∷ marked os) ≡ 0
 no_answers id x os n = unanswered id os (nothing id os n).not_begun
 
-unbegun_out : (id : CallId) (i : ℕ) (past : Past) → began id past ≡ false → false ≡ is_out id i past
-unbegun_out id i past e =
-    ⊎_elim (λ (out : is_out id i past ≡ true). absurd (let lt : i < started id past = out_started id i past out in omega (arith, lt, unbegun id past e)))
-    (λ (shut : is_out id i past ≡ false). sym shut)
-    (cases_Bool (is_out id i past))
-
-none_now : (id : CallId) (m : Mark) (past : Past) → started id (m ∷ past) ≡ 0 → jobs_started id m past ≡ []
-none_now id m past zero_now = by_call (call id (m ∷ past))
-  where
-    by_call : (o : Option ArrivedCall) → option_map_or (λ c. map (λ i. job_of id i c (now past)) (branches_started id m past)) o [] ≡ []
-    by_call None = refl
-    by_call (Some c) =
-        let none : started id (m ∷ past) - started id past ≡ 0 = omega (arith, zero_now) in
-        ap (λ n. map (λ i. job_of id i c (now past)) (range_with_len (started id past) n)) none
-
 -- what comes and begins no call, by which the call of that id is nothing that can be decided
 begins_none : (id : CallId) (x : Coming) (os : List Occurrence) (r : ReplyEntry) → IsNext id os
     → began id (comes id x (marked os) ∷ marked os) ≡ false → is_live id (comes id x (marked os) ∷ marked os) ≡ false
     → entry id (comes id x (marked os) ∷ marked os) ≡ Some r
     → Stepped id (step_to gone (Some r) []) (comes id x (marked os)) (marked os)
-begins_none id x os r n not_begun shut entry_is = record {
-  stands = record { out_is = λ i. unbegun_out id i (comes id x (marked os) ∷ marked os) not_begun; live_is = shut };
-  replies = rw (entry_none id os n) (sym entry_is);
-  starts = sym (none_now id (comes id x (marked os)) (marked os) (unbegun id (comes id x (marked os) ∷ marked os) not_begun));
-}
+begins_none id x os r n not_begun shut entry_is = search arith
 
 uncalled_shut : (id : CallId) (past : Past) → call id past ≡ None → is_live id past ≡ false
 uncalled_shut id past e = rw e refl
@@ -110,10 +68,7 @@ uncalled id x os r n a is =
     (ap (λ o. option_and_then (entry_by id (comes id x (marked os) ∷ marked os)) o) (came_then id x os n) ∙ is)
 
 no_call_asked : (id : CallId) (x : Coming) (os : List Occurrence) → IsNext id os → asked_by (now (marked os)) x ≡ None → Asks_now id x (marked os) None
-no_call_asked id x os n none = record {
-  asked = cond_both (crowds (Comes id.conn x) (marked os)) None (option_and_then (asked_by (now (marked os))) (coming_now id (comes id x (marked os)) (marked os))) (λ o. o ≡ None)
-      (λ _. refl) (λ _. rw (entering_is id x os n) none);
-}
+no_call_asked id x os n none = grind arith
 
 crowded_asked : (id : CallId) (x : Coming) (os : List Occurrence) → crowds (Comes id.conn x) (marked os) ≡ true → Asks_now id x (marked os) None
 crowded_asked id x os crowded = record { asked = rw crowded refl }
@@ -127,22 +82,7 @@ over : (id : CallId) (x : Coming) (os : List Occurrence) (a : ArrivedCall) (e : 
     → ends_at_arrival (marked os) a ≡ Some e → decides (answers id (marked os)) (branches id (marked os)) e ≡ true
     → entry_by id (comes id x (marked os) ∷ marked os) (x, crowds (Comes id.conn x) (marked os)) ≡ call_entry id (comes id x (marked os) ∷ marked os)
     → Stepped id (ended e (new_live id a) []) (comes id x (marked os)) (marked os)
-over id x os a e n asks ends dec by_call =
-    let m : Mark = comes id x (marked os) in
-    let past : Past = marked os in
-    let own : own_event id m past ≡ Some e = own_then id x os (Some a) n asks ∙ ends in
-    let decided_is : decided id (m ∷ past) ≡ Some e = rw ((nothing id os n).undecided, own, dec) refl in
-    let events : own_events id (m ∷ past) ≡ e ∷ [] = rw ((nothing id os n).undecided, own, (nothing id os n).no_events) refl in
-    begins_none id x os (entry_with e (new_live id a)) n (began_then id x os (Some a) n asks ∙ rw ends refl) (decided_shut id (m ∷ past) e decided_is)
-    (ap (λ o. option_and_then (entry_by id (m ∷ past)) o) (came_then id x os n) ∙ by_call
-    ∙ call_entry_is id (m ∷ past) a [] (e ∷ []) e decided_is (call_then id x os (Some a) n asks) (deadlines_now id m past (nothing id os n).undecided ∙ no_deadlines) events)
-  where
-    no_deadlines : branch_deadlines id (comes id x (marked os) ∷ marked os) ≡ []
-    no_deadlines =
-        let none : started id (comes id x (marked os) ∷ marked os) ≡ 0 =
-        unbegun id (comes id x (marked os) ∷ marked os) (began_then id x os (Some a) n asks ∙ rw ends refl) in
-        deadlines_of id a (comes id x (marked os) ∷ marked os) (call_then id x os (Some a) n asks)
-        ∙ ap (λ k. map (branch_deadline id a.plan (comes id x (marked os) ∷ marked os)) (range_with_len 0 k)) none
+over id x os a e n asks ends dec by_call = search (arith, nat_tests, own_then, nothing, begins_none, began_then, decided_shut, came_then, call_entry_is, call_then, deadlines_now, unbegun, deadlines_of, branch_deadline)
 
 -- a call that begins
 begun : (id : CallId) (x : Coming) (os : List Occurrence) (a : ArrivedCall) → IsNext id os → Asks_now id x (marked os) (Some a)
@@ -175,19 +115,12 @@ begun id x os a n asks goes by_call =
           waiting_are = ap (λ k. tasks_from k id a) (sym now_started);
         };
       };
-      replies = rw (entry_none id os n)
-          (sym (ap (λ o. option_and_then (entry_by id (m ∷ past)) o) (came_then id x os n) ∙ by_call ∙ call_entry_none id (m ∷ past) undec));
-      starts = sym (ap (λ o. option_map_or (λ (c : ArrivedCall). map (λ j. job_of id j c (now past)) (branches_started id m past)) o []) call_is
-          ∙ first_started (now past) id a (started id past) (started id (m ∷ past)) none_yet now_started);
+      replies = grind (arith, nat_tests);
+      starts = grind (arith, nat_tests);
     }
   where
     first_outs : (a : ArrivedCall) (i : ℕ) → slice_index_or (first_out a) i false ≡ nat_lt i (first_ones a)
-    first_outs a i =
-        ⊎_elim (λ (lt : i < length a.plan.branches). get_or-map-range_with_len (λ k. nat_lt k (first_ones a)) 0 (length a.plan.branches) i i false lt (omega arith))
-        (λ (ge : length a.plan.branches ≤ i).
-        get_or-eq_default (first_out a) false {n = i} (omega (arith, ge, length-map-range_with_len (λ k. nat_lt k (first_ones a)) 0 (length a.plan.branches)))
-        ∙ sym (le-ltb i (first_ones a) (omega (arith, ge))))
-        (cases_lt i (length a.plan.branches))
+    first_outs a i = grind (arith, nat_tests, get_or-map-range_with_len, get_or-eq_default, length-map-range_with_len, le-ltb)
 
     out_at_first : (id : CallId) (i : ℕ) (m : Mark) (past : Past) → started id past ≡ 0 → is_out id i (m ∷ past) ≡ nat_lt i (started id (m ∷ past))
     out_at_first id i m past none_yet = rw (le-ltb i (started id past) (omega (arith, none_yet))) refl
@@ -197,22 +130,10 @@ begun id x os a n asks goes by_call =
 
     first_started : (moment : ℕ) (id : CallId) (a : ArrivedCall) (s t : ℕ) → s ≡ 0 → t ≡ first_ones a
         → map (λ j. job_of id j a moment) (range_with_len s (t - s)) ≡ first_jobs moment id a
-    first_started moment id a s t s_is t_is =
-        let n : t - s ≡ first_ones a = omega (arith, s_is, t_is) in
-        rw (n, s_is) refl
+    first_started moment id a s t h5 h6 = grind (arith, nat_tests)
 
 ends_decide : (past : Past) (a : ArrivedCall) (e : CallEvent) (k n : ℕ) → ends_at_arrival past a ≡ Some e → decides k n e ≡ true
-ends_decide past a e k n h = by_each (is_drained past) (is_due (now past) a.deadline) e h
-  where
-    by_each : (d b : Bool) (e : CallEvent) → (if d then Some Drained else (if b then Some (Expired (now past)) else None)) ≡ Some e → decides k n e ≡ true
-    by_each d b (Expired t) h = refl
-    by_each d b (BranchExpired i t) h = refl
-    by_each d b HungUp h = refl
-    by_each d b Drained h = refl
-    by_each d b (Failed i error) h = refl
-    by_each true b (Answered i body) h = absurd (cc)
-    by_each false true (Answered i body) h = absurd (cc)
-    by_each false false (Answered i body) h = absurd (cc)
+ends_decide past a e k n h = grind arith
 
 -- a request for a plan, which is not crowded out
 called : (id : CallId) (q : HttpRequest) (plan : PlanRecord) (timeout : Option ℕ) (rid : Option (List ℕ)) (os : List Occurrence) (a : ArrivedCall) → IsNext id os

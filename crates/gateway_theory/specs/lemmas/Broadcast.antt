@@ -1,18 +1,8 @@
 -- One on which nothing comes stays, and what comes on all at once.
-use Rattle.std.proofs.Common.{◌≡◌, ℕ, suc, Bool, true, false, List, [], ◌∷◌, Option, None, Some, refl, sym, ap, ◌∙◌, ◌++◌, subst, append-nil, arith}
-use Rattle.std.specs.Prelude.{◌==◌, if◌then◌else◌, ⊤, ◌||◌}
-use Rattle.std.specs.Option.{option_or}
-use Rattle.std.proofs.lemmas.Bool.{eq-eqb, eqb-true}
-use Rattle.gateway_model.specs.declared.entry.ReplyEntry.{ReplyEntry}
-use Rattle.gateway_model.specs.declared.id.CallId.{CallId}
-use Rattle.gateway_model.specs.Occurrence.{Occurrence, HangUp, Moment, Drain, Break}
-use Rattle.gateway_model.specs.Past.{call_id}
-use Rattle.gateway_theory.specs.Step.{Step, ended_live, kept}
-use Rattle.gateway_theory.specs.Values.{Live, CallState, call_state, ConnectionValue}
+use Rattle.std.specs.Prelude.{◌≡◌, ◌∷◌, ◌++◌, ◌==◌, if◌then◌else◌, ◌||◌}
+use Rattle.gateway_theory.specs.lemmas.Names.{ℕ, suc, Bool, true, false, List, [], Option, None, refl, ap, ◌∙◌, subst, arith, nat_tests, ⊤, option_or, ReplyEntry, Occurrence, HangUp, Moment, Drain, Break, kept, ConnectionValue, Now, call_step, filled, went, AllStand, all_after, breaks_of, now_after, now_of, list_any, JobValue}
+use Rattle.std.proofs.Common.{append-nil}
 use Rattle.gateway_theory.specs.lemmas.Cases.{or_none}
-use Rattle.gateway_theory.specs.Connection.{Now, call_step, filled, went, AllStand, all_after, breaks_of, now_after, now_of}
-use Rattle.std.specs.List.{list_any}
-use Rattle.gateway_model.specs.Job.{JobValue}
 use Rattle.gateway_theory.specs.lemmas.ConnectionSteps.{all_step}
 
 -- it may end calls, and nothing else
@@ -21,34 +11,19 @@ pub data Ends : Occurrence → Type 0 where
   by_moment : (m : ℕ) → Ends (Moment m)
   by_drain : Ends Drain
 
-idle : (moment : ℕ) (id : CallId) (o : Occurrence) (s : CallState) (l : Option Live) → s.live ≡ l → l ≡ None → ended_live moment id o s.out s.live ≡ kept s
-idle moment id o s None is none = ap (λ k. ended_live moment id o s.out k) is ∙ ap (λ k. kept (call_state s.out k)) (sym is)
-idle moment id o s (Some l) is none = absurd (cc)
-
 call_idle : (n : Now) (o : Occurrence) (v : ConnectionValue) → Ends o → (k : ℕ) → (v.calls k).live ≡ None → call_step n o v k ≡ kept (v.calls k)
-call_idle n o v (by_hang_up c) k none = idle n.moment (call_id v.number k) (HangUp c) (v.calls k) (v.calls k).live refl none
-call_idle n o v (by_moment m) k none = idle n.moment (call_id v.number k) (Moment m) (v.calls k) (v.calls k).live refl none
-call_idle n o v by_drain k none = idle n.moment (call_id v.number k) Drain (v.calls k) (v.calls k).live refl none
+call_idle n o v h3 k h5 = grind (arith, nat_tests)
 
 pub filled_none : (reply : ℕ → Option ReplyEntry) (k : ℕ) (slots : List (Option ReplyEntry)) → ((j : ℕ) → reply j ≡ None) → filled reply k slots ≡ slots
 filled_none reply k [] none = refl
 filled_none reply k (s ∷ slots) none = ap (λ x. option_or s x ∷ filled reply (suc k) slots) (none k) ∙ ap (λ x. x ∷ filled reply (suc k) slots) (or_none s) ∙ ap (λ l. s ∷ l) (filled_none reply (suc k) slots none)
 
 pub idle_stays : (n : Now) (o : Occurrence) (v : ConnectionValue) → Ends o → ((k : ℕ) → (v.calls k).live ≡ None) → went n o v ≡ v
-idle_stays n o v ends none = by o ends (filled_none _ v.taken v.slots (λ k. ap (λ (s : Step). s.reply) (call_idle n o v ends k (none k)))) (λ k. ap (λ (s : Step). s.call) (call_idle n o v ends k (none k)))
-  where
-    by : (o : Occurrence) → Ends o → filled (λ k. (call_step n o v k).reply) v.taken v.slots ≡ v.slots → ((k : ℕ) → (call_step n o v k).call ≡ v.calls k) → went n o v ≡ v
-    by o (by_hang_up c) slots calls = λ i. record v { slots = slots i; calls = λ k. calls k i }
-    by o (by_moment m) slots calls = λ i. record v { slots = slots i; calls = λ k. calls k i }
-    by o by_drain slots calls = λ i. record v { slots = slots i; calls = λ k. calls k i }
+idle_stays n o v ends none = grind (arith, nat_tests, filled_none, call_idle)
 
 -- once it broke no call of it can be decided
 pub broken_dead : (n : Now) (v : ConnectionValue) (k : ℕ) → ((went n (Break v.number) v).calls k).live ≡ None
-broken_dead n v k = by (v.number == v.number) (eq-eqb v.number v.number refl)
-  where
-    by : (b : Bool) → b ≡ true → (if b then kept (call_state (v.calls k).out None) else kept (v.calls k)).call.live ≡ None
-    by true is = refl
-    by false is = absurd (cc)
+broken_dead n v k = grind arith
 
 -- so one that breaks at a moment, a hang-up or the drain is as if it had broken before
 pub break_first : (n : Now) (o : Occurrence) (v : ConnectionValue) → Ends o → went n o (went n (Break v.number) v) ≡ went n (Break v.number) v
@@ -90,11 +65,7 @@ module _ (n : Now) (taken : ℕ → List ReplyEntry) (handed waiting : List JobV
 
   broken_by : (c : ℕ) (cs : List ℕ) (d : ℕ) → AreOnce (c ∷ cs) → (b : Bool) → (c == d) ≡ b → all_broken n cs conns d ≡ (if listed cs d then went n (Break d) (conns d) else conns d)
       → (if b then went n (Break c) (all_broken n cs conns d) else all_broken n cs conns d) ≡ (if b || listed cs d then went n (Break d) (conns d) else conns d)
-  broken_by c cs d once true is rest =
-      let same : c ≡ d = eqb-true c d is in
-      ap (λ e. went n (Break e) (all_broken n cs conns d)) same
-      ∙ ap (λ v. went n (Break d) v) (rest ∙ ap (λ b. if b then went n (Break d) (conns d) else conns d) (ap (listed cs) (sym same) ∙ once.0))
-  broken_by c cs d once false is rest = rest
+  broken_by c cs d h3 b h5 h6 = grind (arith, nat_tests)
 
   -- each of them broke, and no other
   pub broken_are : (cs : List ℕ) → AreOnce cs → (d : ℕ) → all_broken n cs conns d ≡ (if listed cs d then went n (Break d) (conns d) else conns d)

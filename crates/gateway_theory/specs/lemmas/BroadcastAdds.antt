@@ -1,31 +1,11 @@
 -- What a moment, the drain and a hang-up add.
-use Rattle.std.proofs.Common.{◌≡◌, ℕ, zero, suc, ◌<◌, Bool, true, false, List, [], ◌∷◌, Option, None, Some, refl, sym, ap, ◌∙◌, arith, ◌++◌, Result, subst}
-use Rattle.std.specs.Prelude.{◌==◌, ◌&&◌, ◌||◌, if◌then◌else◌, is_some, nat_lt, not, ⊤}
-use Rattle.std.proofs.lemmas.Bool.{eq-eqb, eqb-true, le-ltb, lt-ltb, ltb-false, ltb-true}
-use Rattle.gateway_model.specs.History.{History}
-use Rattle.gateway_model.specs.Occurrence.{Break, Drain, Moment, Occurrence}
-use Rattle.gateway_theory.specs.Step.{Step, moment_after}
-use Rattle.gateway_theory.specs.Values.{Live, ConnectionValue, is_broken_value, not_kept, is_open_value, GatewayValue, conn_of, connection, value_of, HeldConnection, connection_of}
-use Rattle.gateway_theory.specs.declared.trigger.Trigger.{Trigger}
-use Rattle.gateway_theory.specs.declared.trigger.Trigger.TheVariants.{Drained, Reached}
-use Rattle.gateway_theory.specs.Connection.{call_step, is_shut_value, now_after, now_of, went, AllStand, ConnectionStands}
-use Rattle.gateway_theory.specs.Core.{Adds, CoreValue, HasConns, StreamStands, is_heard}
-use Rattle.gateway_theory.specs.Gateway.{core_of, is_broken_conn, stream_of}
-use Rattle.gateway_theory.specs.Held.{CallsEnd, broke, broken_held, ended, ended_held, stream_in, HangsUp, hears, hung, hung_held, unnoticed}
-use Rattle.gateway_theory.specs.Serving.{IsServing}
-use Rattle.gateway_theory.specs.Steps.{Broadcast, Drains, MayEnd, Reaches, HangsUpAt, Moves, absent, there}
+use Rattle.std.specs.Prelude.{◌≡◌, ◌<◌, ◌∷◌, ◌++◌, ◌==◌, ◌&&◌, ◌||◌, if◌then◌else◌}
+use Rattle.gateway_theory.specs.lemmas.Names.{ℕ, zero, suc, Bool, true, false, List, [], Option, None, Some, refl, sym, ap, ◌∙◌, arith, subst, nat_tests, is_some, nat_lt, not, ⊤, eq-eqb, eqb-true, le-ltb, lt-ltb, History, Break, Drain, Moment, Occurrence, Step, moment_after, ConnectionValue, is_broken_value, is_open_value, GatewayValue, conn_of, connection, value_of, HeldConnection, connection_of, Trigger, Drained, Reached, call_step, is_shut_value, now_after, now_of, went, AllStand, ConnectionStands, Adds, CoreValue, HasConns, StreamStands, is_heard, core_of, is_broken_conn, stream_of, CallsEnd, broke, broken_held, ended, ended_held, stream_in, HangsUp, hears, hung, hung_held, unnoticed, IsServing, Broadcast, Drains, MayEnd, Reaches, HangsUpAt, Moves, absent, there, append-nil, hung_up, listens, once, own, occurrences, ReplyEntry, StepFault}
+use Rattle.std.proofs.Common.{Result}
 use Rattle.gateway_theory.specs.lemmas.Broadcast.{AreOnce, listed, Ends, by_drain, by_moment, idle_stays, all_broken, break_first, by_hang_up}
 use Rattle.gateway_theory.specs.lemmas.Events.{broadcast, drain_adds, moment_adds, BreakBy, came, hang_up_adds, hang_up_may}
 use Rattle.gateway_theory.specs.lemmas.Moving.{Fades, fades_adds, same, Became, became_fades}
 use Rattle.gateway_theory.specs.lemmas.HeldValues.{EndsAt, at_drain, at_moment, broken_value, ended_drain, ended_moment, ended_hang_up}
-use Rattle.std.proofs.lemmas.List.{append-nil}
-use Rattle.gateway_model.specs.Events.{hung_up, is_open, listens, once}
-use Rattle.gateway_model.specs.Own.{own}
-use Rattle.gateway_model.specs.Past.{call_id, marked}
-use Rattle.gateway_model.specs.Starts.{occurrences}
-use Rattle.gateway_model.specs.declared.entry.ReplyEntry.{ReplyEntry}
-use Rattle.gateway_theory.specs.LiveStands.{MayLive}
-use Rattle.gateway_theory.specs.declared.fault.StepFault.{StepFault}
 use Rattle.gateway_theory.specs.lemmas.Adding.{MayBreak, Newer, none_newer, one_newer, StandsNow, adds_event, none_more}
 use Rattle.gateway_theory.specs.lemmas.Cases.{or_true}
 use Rattle.gateway_theory.specs.lemmas.ServedLemmas.{hung_still, open_still, text_still, hung_if, stays_itself, stream_stays}
@@ -44,46 +24,14 @@ below_where p (suc n) = if p n then n ∷ below_where p n else below_where p n
 
 listed_where : (p : ℕ → Bool) (n c : ℕ) → listed (below_where p n) c ≡ (nat_lt c n && p c)
 listed_where p zero c = sym (ap (λ b. b && p c) (le-ltb c 0 (omega arith)))
-listed_where p (suc n) c = by (p n) (n == c) refl refl (listed_where p n c)
-  where
-    apart : (n == c) ≡ false → n ≡ c → ⊥
-    apart ne e = absurd (let clash : true ≡ false = sym (eq-eqb n c e) ∙ ne in cc)
-
-    more : (n == c) ≡ false → (b : Bool) → nat_lt c n ≡ b → nat_lt c n ≡ nat_lt c (suc n)
-    more ne true is = let lt = ltb-true c n is in is ∙ sym (lt-ltb c (suc n) (omega (arith, lt)))
-    more ne false is = let ge = ltb-false c n is in let far = apart ne in is ∙ sym (le-ltb c (suc n) (omega (arith, ge, far)))
-
-    by : (a b : Bool) → p n ≡ a → (n == c) ≡ b → listed (below_where p n) c ≡ (nat_lt c n && p c) → listed (if p n then n ∷ below_where p n else below_where p n) c ≡ (nat_lt c (suc n) && p c)
-    by true true a b rest =
-        let is = eqb-true n c b in
-        ap (λ x. listed (if x then n ∷ below_where p n else below_where p n) c) a ∙ ap (λ x. x || listed (below_where p n) c) b
-        ∙ sym (rw (lt-ltb c (suc n) (omega (arith, is)), ap p (sym is) ∙ a) refl)
-    by true false a b rest =
-        ap (λ x. listed (if x then n ∷ below_where p n else below_where p n) c) a ∙ ap (λ x. x || listed (below_where p n) c) b ∙ rest ∙ ap (λ x. x && p c) (more b (nat_lt c n) refl)
-    by false true a b rest =
-        let is = eqb-true n c b in
-        ap (λ x. listed (if x then n ∷ below_where p n else below_where p n) c) a ∙ rest ∙ ap (λ x. nat_lt c n && x) (ap p (sym is) ∙ a) ∙ none (nat_lt c n) (nat_lt c (suc n))
-        ∙ sym (ap (λ x. nat_lt c (suc n) && x) (ap p (sym is) ∙ a))
-      where
-        none : (x y : Bool) → (x && false) ≡ (y && false)
-        none true true = refl
-        none true false = refl
-        none false true = refl
-        none false false = refl
-    by false false a b rest = ap (λ x. listed (if x then n ∷ below_where p n else below_where p n) c) a ∙ rest ∙ ap (λ x. x && p c) (more b (nat_lt c n) refl)
+listed_where p (suc n) c = grind (arith, listed_where p n c)
 
 once_where : (p : ℕ → Bool) (n : ℕ) → AreOnce (below_where p n)
 once_where p zero = tt
-once_where p (suc n) = by (p n) (once_where p n)
-  where
-    by : (b : Bool) → AreOnce (below_where p n) → AreOnce (if b then n ∷ below_where p n else below_where p n)
-    by true rest = (listed_where p n n ∙ ap (λ x. x && p n) (le-ltb n n (omega arith)), rest)
-    by false rest = rest
+once_where p (suc n) = grind (arith, nat_tests, once_where p n, AreOnce, listed_where, le-ltb)
 
 and_parts : (a b : Bool) → (a && b) ≡ true → (a ≡ true) × (b ≡ true)
-and_parts true true e = (refl, refl)
-and_parts true false e = absurd (cc)
-and_parts false b e = absurd (cc)
+and_parts a b h2 = grind (arith, nat_tests)
 
 -- ---- each connection
 
@@ -112,13 +60,7 @@ module _ (t : Trigger) (o : Occurrence) (v w : GatewayValue) (breaks : Bool) (b 
       broken_then y is = ap (λ n. is_broken_value n c (connection c w)) opened_is ∙ ap (λ z. is_broken_value v.opened c z) is
 
       by : (x : Option HeldConnection) → conn_of c v ≡ x → MayEnd t x (conn_of c w) → Went c
-      by None is none =
-          let now = value_then None none in
-          let was : connection c v ≡ value_of v.opened c None = ap (value_of v.opened c) is in
-          goes
-          (ap (λ z. z && not (is_broken_conn c v)) (broken_then (value_of v.opened c None) now) ∙ ap (λ z. is_broken_value v.opened c (value_of v.opened c None) && not (is_broken_value v.opened c z)) was
-          ∙ off (is_broken_value v.opened c (value_of v.opened c None)))
-          (now ∙ sym (idle_stays (core_of v).now o (not_kept (nat_lt c v.opened) c) ends (λ k. refl)) ∙ ap (λ z. went (core_of v).now o z) (sym was))
+      by None is none = grind (arith, nat_tests, value_then, broken_then, off, idle_stays, lt-ltb, broken_value)
       by (Some k) is (l, l_is, calls) = by_calls calls
         where
           was : connection c v ≡ connection_of k
@@ -128,12 +70,7 @@ module _ (t : Trigger) (o : Occurrence) (v w : GatewayValue) (breaks : Bool) (b 
           now = value_then (Some l) l_is
 
           by_calls : CallsEnd t k l → Went c
-          by_calls (ended l_ended) =
-              let here : connection c w ≡ connection_of (ended_held t k) = now ∙ ap connection_of l_ended in
-              goes
-              (ap (λ z. z && not (is_broken_conn c v)) (broken_then (connection_of (ended_held t k)) here)
-              ∙ ap (λ z. is_broken_value v.opened c (connection_of k) && not (is_broken_value v.opened c z)) was ∙ off (is_broken_value v.opened c (connection_of k)))
-              (here ∙ ends_value k ∙ ap (λ z. went (core_of v).now o z) (sym was))
+          by_calls (ended l_ended) = grind (arith, nat_tests)
           by_calls (broke still whole in_it l_broke) =
               let here : connection c w ≡ connection_of (broken_held k) = now ∙ ap connection_of l_broke in
               let held = s.each c k is in
@@ -155,8 +92,7 @@ module _ (t : Trigger) (o : Occurrence) (v w : GatewayValue) (breaks : Bool) (b 
   break_by c on = by (went_each c)
     where
       by : Went c → (is_shut_value (connection c v) ≡ false) × ((r : ℕ) × (is_some (call_step (core_of v).now o (connection c v) r).reply ≡ true))
-      by (goes none is) = absurd (let clash : true ≡ false = sym (and_parts (nat_lt c v.opened) (newly c) (sym (listed_where newly v.opened c) ∙ on)).1 ∙ none in cc)
-      by (falls one born whole r replies is) = (whole, (r, replies))
+      by h0 = grind (arith, nat_tests, and_parts, newly, listed_where)
 
   pub broadcast_fades : w.plans ≡ v.plans → (core_of w).now ≡ now_after o (core_of v).now → w.begun ≡ v.begun → w.jobs ≡ v.jobs → Fades (broadcast o these (core_of v)) (core_of w)
   broadcast_fades plans_are now_is begun_is jobs_are = record {
@@ -170,24 +106,10 @@ module _ (t : Trigger) (o : Occurrence) (v w : GatewayValue) (breaks : Bool) (b 
   }
     where
       each : (c : ℕ) → Went c → connection c w ≡ (if listed these c then went (core_of v).now (Break c) (connection c v) else went (core_of v).now o (connection c v))
-      each c (goes none is) =
-          let out : listed these c ≡ false = listed_where newly v.opened c ∙ ap (λ x. nat_lt c v.opened && x) none ∙ never (nat_lt c v.opened) in
-          is ∙ sym (ap (λ x. if x then went (core_of v).now (Break c) (connection c v) else went (core_of v).now o (connection c v)) out)
-        where
-          never : (x : Bool) → (x && false) ≡ false
-          never true = refl
-          never false = refl
-      each c (falls one born whole r replies is) =
-          let on : listed these c ≡ true = listed_where newly v.opened c ∙ ap (λ x. x && newly c) (lt-ltb c v.opened born) ∙ one in
-          is ∙ sym (ap (λ x. if x then went (core_of v).now (Break c) (connection c v) else went (core_of v).now o (connection c v)) on)
+      each c h1 = grind (arith, nat_tests, listed, these, listed_where, newly, lt-ltb)
 
       stream : (c : ℕ) (x : Option HeldConnection) → conn_of c v ≡ x → MayEnd t x (conn_of c w) → stream_of (conn_of c w) ≡ stream_of (conn_of c v)
-      stream c None is none = ap stream_of none ∙ sym (ap stream_of is)
-      stream c (Some k) is (l, l_is, calls) = ap stream_of l_is ∙ by calls ∙ sym (ap stream_of is)
-        where
-          by : CallsEnd t k l → stream_in l ≡ stream_in k
-          by (ended l_ended) = ap stream_in l_ended
-          by (broke still whole in_it l_broke) = ap stream_in l_broke
+      stream c x h2 h3 = grind (arith, nat_tests)
 
 -- ---- the calls of the gateway
 
@@ -218,53 +140,18 @@ drains_adds v w breaks h r s =
 
 -- of one that is closed or broken no call can be decided
 pub dead_when_shut : (v : ConnectionValue) (taken : List ReplyEntry) (os : List Occurrence) → ConnectionStands v taken os → is_shut_value v ≡ true → (r : ℕ) → (v.calls r).live ≡ None
-dead_when_shut v taken os h shut r = by (v.calls r).live refl (h.calls r).live_is
-  where
-    by : (l : Option Live) → (v.calls r).live ≡ l → MayLive (call_id v.number r) l (v.calls r).out (marked os) → (v.calls r).live ≡ None
-    by None is m = is
-    by (Some l) is m = absurd (let clash : true ≡ false = sym shut ∙ h.shut_is ∙ m.unshut in cc)
+dead_when_shut v taken os h shut r = grind arith
 
 module _ (h : History) (v : CoreValue) (n : ℕ) (deaf : (is_open_value v.opened n (v.conns n) && is_heard (v.conns n) (v.streams n)) ≡ false) where
-  both : (a b : Bool) → (a && not b) ≡ true → (a ≡ true) × (b ≡ false)
-  both true false e = (refl, refl)
-  both true true e = absurd (cc)
-  both false b e = absurd (cc)
-
   -- where the definitions hear it, it is broken
   broke_then : HasConns v h.opened h.events → listens h.opened n h.events ≡ true → (v.conns n).broken ≡ true
-  broke_then c on = by (v.conns n).broken refl
-    where
-      by : (b : Bool) → (v.conns n).broken ≡ b → (v.conns n).broken ≡ true
-      by true is = is
-      by false is = absurd (
-          let parts = both (is_open h.opened n h.events) (hung_up h.opened n h.events) on in
-          let there : is_open_value v.opened n (v.conns n) ≡ true = sym (c.each n).open_is ∙ parts.0 in
-          let whole : is_heard (v.conns n) (v.streams n) ≡ true = rw (is, (c.each n).hung_is there is, parts.1) refl in
-          let clash : true ≡ false = sym (rw (there, whole) refl) ∙ deaf in cc)
-
-  -- by the definitions it hung up before, or is not open, or is broken
-  hung_here : (a b : Bool) → (a && not b) ≡ false → (b || (a && true)) ≡ b
-  hung_here true true e = refl
-  hung_here true false e = absurd (cc)
-  hung_here false true e = refl
-  hung_here false false e = refl
+  broke_then c on = grind arith
 
   each_deaf : HasConns v h.opened h.events → (c : ℕ) (b : Bool) → (n == c) ≡ b → (x : Bool) → listens h.opened n h.events ≡ x → StreamStands h.opened (event.HangUp n ∷ h.events) v.opened c (v.conns c) (v.streams c)
   each_deaf hc c false ne x on = stream_stays h.opened h.opened h.events (event.HangUp n ∷ h.events) v.opened v.opened c (v.conns c) (v.conns c) (v.streams c) (stays_itself (v.conns c)) (hc.each c) refl
       (open_still h.opened c (event.HangUp n) h.events refl refl) (hung_still h.opened c (event.HangUp n) h.events ne) (text_still h.opened c (event.HangUp n) h.events refl)
-  each_deaf hc c true at false off =
-      let is = eqb-true n c at in
-      stream_stays h.opened h.opened h.events (event.HangUp n ∷ h.events) v.opened v.opened c (v.conns c) (v.conns c) (v.streams c) (stays_itself (v.conns c)) (hc.each c) refl
-      (open_still h.opened c (event.HangUp n) h.events refl refl)
-      (ap (λ b. hung_up h.opened c h.events || (is_open h.opened c h.events && b)) at ∙ hung_here (is_open h.opened c h.events) (hung_up h.opened c h.events) (ap (λ m. listens h.opened m h.events) (sym is) ∙ off))
-      (text_still h.opened c (event.HangUp n) h.events refl)
-  each_deaf hc c true at true on =
-      let broke : (v.conns c).broken ≡ true = ap (λ m. (v.conns m).broken) (sym (eqb-true n c at)) ∙ broke_then hc on in record {
-        unopened = (hc.each c).unopened;
-        open_is = open_still h.opened c (event.HangUp n) h.events refl refl ∙ (hc.each c).open_is;
-        hung_is = λ there whole. absurd (let clash : true ≡ false = sym broke ∙ whole in cc);
-        has_come = λ there heard. absurd (let clash : false ≡ true = sym (ap (λ b. not b && not (v.streams c).hung_up) broke) ∙ heard in cc);
-      }
+  each_deaf hc c true at false off = grind arith
+  each_deaf hc c true at true on = grind arith
 
   -- it changes nothing
   stands_deaf : HasConns v h.opened h.events → (os : List Occurrence) → StandsNow h v os → (x : Bool) → listens h.opened n h.events ≡ x
@@ -302,9 +189,7 @@ heard_there c v k s k_is =
     ∙ ap (λ b. (b && not k.closed) && (not k.broken && not k.hung_up)) (lt-ltb c v.opened (s.each c k k_is).born)
 
 pub hears_both : (a b : Bool) → (a && b) ≡ true → (a ≡ true) × (b ≡ true)
-hears_both true true e = (refl, refl)
-hears_both true false e = absurd (cc)
-hears_both false b e = absurd (cc)
+hears_both a b h2 = grind (arith, nat_tests)
 
 -- nothing is heard of one that is not kept
 pub deaf_absent : (c : ℕ) (v : GatewayValue) → conn_of c v ≡ None → (is_open_value v.opened c (connection c v) && is_heard (connection c v) (stream_of (conn_of c v))) ≡ false
@@ -323,18 +208,7 @@ module _ (number : ℕ) (v w : GatewayValue) (h : History) (s : IsServing v) (k 
   became : (cs : List ℕ) → went (core_of v).now (occurs.HangUp number) (all_broken (core_of v).now cs (core_of v).conns number) ≡ connection_of l
       → ((d : ℕ) → (number == d) ≡ false → all_broken (core_of v).now cs (core_of v).conns d ≡ connection d v) → stream_in l ≡ record (stream_in k) { hung_up = true }
       → Became number l v w (came (occurs.HangUp number) cs (λ c. hung_if (number == c) (stream_of (conn_of c v))) (core_of v))
-  became cs here others stream = record {
-    plans_are = ap (λ (x : GatewayValue). x.plans) w_is;
-    now_is = ap (λ (x : GatewayValue). now_of x.moment x.drained) w_is ∙ ap (λ m. now_of m v.drained) (omega arith);
-    opened_is = ap (λ (x : GatewayValue). x.opened) w_is;
-    opened_was = refl;
-    begun_is = ap (λ (x : GatewayValue). x.begun) w_is;
-    jobs_are = ap (λ (x : GatewayValue). x.jobs) w_is ∙ sym (append-nil v.jobs);
-    conn_is = same (sym (ap (λ b. if b then went (core_of v).now (occurs.HangUp number) (all_broken (core_of v).now cs (core_of v).conns number) else all_broken (core_of v).now cs (core_of v).conns number) (eq-eqb number number refl) ∙ here));
-    others_are = λ d ne. ap (λ b. if b then went (core_of v).now (occurs.HangUp number) (all_broken (core_of v).now cs (core_of v).conns d) else all_broken (core_of v).now cs (core_of v).conns d) ne ∙ others d ne;
-    stream_is = λ open_now. stream ∙ sym (ap (λ b. hung_if b (stream_of (conn_of number v))) (eq-eqb number number refl) ∙ ap (λ o. record (stream_of o) { hung_up = true }) k_is);
-    streams_are = λ d ne. ap (λ b. hung_if b (stream_of (conn_of d v))) ne;
-  }
+  became cs here others stream = grind (arith, nat_tests, append-nil, same, all_broken, eq-eqb, hung_if)
 
   pub hung_adds : l ≡ ended_held (trigger.HungUp k.number) (hung_held k) → Adds h.opened (event.HangUp number) h (core_of v) (core_of w)
   hung_adds l_is = fades_adds (came (occurs.HangUp number) [] (λ c. hung_if (number == c) (stream_of (conn_of c v))) (core_of v)) (core_of w)
@@ -351,8 +225,7 @@ module _ (number : ℕ) (v w : GatewayValue) (h : History) (s : IsServing v) (k 
       (hang_up_may h (core_of v) number (ap (λ (x : ConnectionValue). x.broken) value_is ∙ (hears_parts k on).1) parts.0 parts.1))
     where
       broke_is : all_broken (core_of v).now (number ∷ []) (core_of v).conns number ≡ went (core_of v).now (Break k.number) (connection_of k)
-      broke_is = ap (λ b. if b then went (core_of v).now (Break number) (connection number v) else connection number v) (eq-eqb number number refl)
-          ∙ ap (λ x. went (core_of v).now (Break number) x) value_is ∙ ap (λ n. went (core_of v).now (Break n) (connection_of k)) (sym number_is)
+      broke_is = grind (arith, nat_tests)
 
       here : went (core_of v).now (occurs.HangUp number) (all_broken (core_of v).now (number ∷ []) (core_of v).conns number) ≡ connection_of l
       here = ap (λ x. went (core_of v).now (occurs.HangUp number) x) broke_is ∙ break_first (core_of v).now (occurs.HangUp number) (connection_of k) (by_hang_up number)

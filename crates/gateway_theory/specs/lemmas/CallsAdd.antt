@@ -1,29 +1,8 @@
 -- What openings, closings and results add to what was lived.
-use Rattle.std.proofs.Common.{◌≡◌, ℕ, ◌+◌, Bool, true, false, List, [], ◌∷◌, ◌++◌, length, Option, None, Some, refl, sym, ap, ◌∙◌, subst, arith}
-use Rattle.std.specs.Prelude.{◌==◌, ◌&&◌, if◌then◌else◌, is_none, is_some, nat_lt, not, slice_set}
-use Rattle.std.specs.List.{list_any}
-use Rattle.std.proofs.lemmas.Bool.{eq-eqb, eqb-true, lt-ltb, le-ltb, ltb-false, ltb-true}
-use Rattle.std.proofs.lemmas.List.{append-nil}
-use Rattle.http_pieces.specs.Reader.{HasRead}
-use Rattle.connect_codec.specs.declared.answer.Outcome.{Outcome}
-use Rattle.gateway_model.specs.History.{History}
-use Rattle.gateway_model.specs.Job.{JobValue}
-use Rattle.gateway_model.specs.Occurrence.{Break, Closing, Occurrence}
-use Rattle.gateway_model.specs.Past.{call_id, is_call}
-use Rattle.gateway_model.specs.declared.event.Event.{Event}
-use Rattle.gateway_model.specs.declared.id.CallId.{CallId}
-use Rattle.gateway_theory.specs.Results.{is_spent}
-use Rattle.gateway_theory.specs.Step.{Step, has_out, kept, result_on}
-use Rattle.gateway_theory.specs.Values.{CallState, Live, call_at, ConnectionValue, not_kept, GatewayValue, conn_of, connection, value_of, HeldConnection, connection_of}
-use Rattle.gateway_theory.specs.Store.{IsFound, kept_at}
-use Rattle.gateway_theory.specs.declared.fault.Took.{Took}
+use Rattle.std.specs.Prelude.{◌≡◌, ◌+◌, ◌∷◌, ◌++◌, ◌==◌, if◌then◌else◌}
+use Rattle.gateway_theory.specs.lemmas.Names.{ℕ, Bool, true, false, List, [], length, Option, None, Some, refl, sym, ap, ◌∙◌, subst, arith, nat_tests, is_none, is_some, nat_lt, eq-eqb, eqb-true, le-ltb, append-nil, HasRead, Outcome, History, JobValue, Break, Closing, Occurrence, call_id, Event, CallId, is_spent, Step, has_out, kept, CallState, Live, call_at, ConnectionValue, GatewayValue, conn_of, connection, HeldConnection, connection_of, IsFound, kept_at, Took, Now, call_step, forgets, now_of, went, Adds, core_of, stream_of, Forgets, Holds, TakesResult, TakesStarved, closed_held, forgotten, late, left_of, lost, lost_held, new_reader, result_in, settled, settled_held, stays, unknown, IsServing, Closes, Moves, Opens, Results, Starves, absent, shut, there}
 use Rattle.gateway_theory.specs.lemmas.StoreLemmas.{call_found}
-use Rattle.gateway_theory.specs.Connection.{Now, call_step, forgets, is_shut_value, now_of, went}
-use Rattle.gateway_theory.specs.Core.{Adds, new_stream}
-use Rattle.gateway_theory.specs.Gateway.{core_of, stream_of}
-use Rattle.gateway_theory.specs.Held.{Forgets, Holds, TakesResult, TakesStarved, closed_held, forgotten, late, left_of, lost, lost_held, new_held, new_reader, result_in, settled, settled_held, stays, unknown}
-use Rattle.gateway_theory.specs.Serving.{IsServing}
-use Rattle.gateway_theory.specs.Steps.{Closes, Moves, Opens, Results, Starves, absent, closes, shut, there}
+use Rattle.gateway_theory.specs.Steps.{closes}
 use Rattle.gateway_theory.specs.lemmas.Broadcast.{all_broken, filled_none}
 use Rattle.gateway_theory.specs.lemmas.Conns.{shut_absent, shut_there, open_there, there_value, absent_value}
 use Rattle.gateway_theory.specs.lemmas.Events.{MayAll, came, closing_adds, counted_may, result_adds, unclosed_adds}
@@ -39,14 +18,7 @@ use Rattle.gateway_model.specs.declared.event.Event.TheVariants as event
 
 -- of one that was not opened yet, where one more is then
 pub unborn_other : (n c : ℕ) → (n == c) ≡ false → nat_lt c (n + 1) ≡ nat_lt c n
-unborn_other n c ne = by (nat_lt c n) refl
-  where
-    apart : n ≡ c → ⊥
-    apart e = absurd (let clash : true ≡ false = sym (eq-eqb n c e) ∙ ne in cc)
-
-    by : (b : Bool) → nat_lt c n ≡ b → nat_lt c (n + 1) ≡ nat_lt c n
-    by true is = let lt = ltb-true c n is in lt-ltb c (n + 1) (omega (arith, lt)) ∙ sym is
-    by false is = let ge = ltb-false c n is in le-ltb c (n + 1) (omega (arith, ge, apart)) ∙ sym is
+unborn_other n c ne = grind arith
 
 -- nothing is kept under the next number
 pub unborn_absent : (v : GatewayValue) → IsServing v → conn_of v.opened v ≡ None
@@ -57,34 +29,7 @@ unborn_absent v s = by (conn_of v.opened v) refl
     by (Some k) is = absurd (let lt = (s.each v.opened k is).born in omega (arith, lt))
 
 opens_fades : (v w : GatewayValue) (number : ℕ) → Opens v w number → IsServing v → Fades (opens (core_of v)) (core_of w)
-opens_fades v w number o s = record {
-  plans_are = ap (λ (x : GatewayValue). x.plans) o.rest;
-  now_is = ap (λ (x : GatewayValue). now_of x.moment x.drained) o.rest;
-  opened_is = opened_is;
-  begun_is = ap (λ (x : GatewayValue). x.begun) o.rest;
-  waiting_are = ap (λ (x : GatewayValue). x.jobs) o.rest;
-  conns_are = λ c. each c (v.opened == c) refl;
-  streams_are = λ c still. stream c (v.opened == c) refl;
-}
-  where
-    opened_is : w.opened ≡ v.opened + 1
-    opened_is = ap (λ (x : GatewayValue). x.opened) o.rest
-
-    each : (c : ℕ) (b : Bool) → (v.opened == c) ≡ b → FadesTo (connection c v) (connection c w)
-    each c true at =
-        let is = eqb-true v.opened c at in
-        same (ap (value_of w.opened c) (ap (λ n. conn_of n w) (sym is) ∙ o.moves.here)
-        ∙ same_value (connection_of (new_held v.opened)) (not_kept false c) is refl refl (λ r. refl) refl refl
-        ∙ sym (ap (value_of v.opened c) (ap (λ n. conn_of n v) (sym is) ∙ unborn_absent v s) ∙ ap (λ b. not_kept b c) (le-ltb c v.opened (omega (arith, is)))))
-    each c false ne = same (ap (value_of w.opened c) (o.moves.others c ne) ∙ by (conn_of c v))
-      where
-        by : (x : Option HeldConnection) → value_of w.opened c x ≡ value_of v.opened c x
-        by (Some k) = refl
-        by None = ap (λ b. not_kept b c) (ap (nat_lt c) opened_is ∙ unborn_other v.opened c ne)
-
-    stream : (c : ℕ) (b : Bool) → (v.opened == c) ≡ b → stream_of (conn_of c w) ≡ (if v.opened == c then new_stream else stream_of (conn_of c v))
-    stream c true at = ap stream_of (ap (λ n. conn_of n w) (sym (eqb-true v.opened c at)) ∙ o.moves.here) ∙ sym (ap (λ b. if b then new_stream else stream_of (conn_of c v)) at)
-    stream c false ne = ap stream_of (o.moves.others c ne) ∙ sym (ap (λ b. if b then new_stream else stream_of (conn_of c v)) ne)
+opens_fades v w number o s = grind (arith, nat_tests, FadesTo, eqb-true, same, same_value, unborn_absent, le-ltb, unborn_other)
 
 pub opens_adds : HasRead new_reader [] [] → (v w : GatewayValue) (number : ℕ) (h : History) → Opens v w number → IsServing v
     → Adds (h.opened ++ length h.events ∷ []) event.Opening h (core_of v) (core_of w)
@@ -108,43 +53,17 @@ closes_adds number v w result h (closes k k_is still r m w_is) s =
     its = (s.each number k k_is).number_is
 
     now_here : (b : Bool) → b ≡ true → (if b then went (core_of v).now (Closing number) (connection number v) else connection number v) ≡ connection_of (closed_held k)
-    now_here true is =
-        ap (λ x. went (core_of v).now (Closing number) x) (there_value number v k k_is) ∙ ap (λ n. went (core_of v).now (Closing n) (connection_of k)) (sym its) ∙ sym (closed_value (core_of v).now k)
-    now_here false is = absurd (cc)
+    now_here b h1 = grind (arith, nat_tests, there_value, its, closed_value)
 
     became : Became number (closed_held k) v w (came (Closing number) [] (core_of v).streams (core_of v))
-    became = record {
-      plans_are = ap (λ (x : GatewayValue). x.plans) w_is;
-      now_is = ap (λ (x : GatewayValue). now_of x.moment x.drained) w_is ∙ ap (λ m. now_of m v.drained) (omega arith);
-      opened_is = ap (λ (x : GatewayValue). x.opened) w_is;
-      opened_was = refl;
-      begun_is = ap (λ (x : GatewayValue). x.begun) w_is;
-      jobs_are = ap (λ (x : GatewayValue). x.jobs) w_is ∙ sym (append-nil v.jobs);
-      conn_is = same (sym (now_here (number == number) (eq-eqb number number refl)));
-      others_are = λ d ne. ap (λ b. if b then went (core_of v).now (Closing number) (connection d v) else connection d v) ne;
-      stream_is = λ open_now. absurd (let clash : false ≡ true = sym open_now ∙ ap is_shut_value (now_here (number == number) (eq-eqb number number refl)) in cc);
-      streams_are = λ d ne. refl;
-    }
+    became = grind (arith, nat_tests, append-nil, same, now_here, eq-eqb)
 
 -- ---- results
 
 -- one of no branch that is out changes nothing
 module _ (n : Now) (v : ConnectionValue) (id : CallId) (branch : ℕ) (outcome : Outcome) (none : has_out (v.calls id.request) branch ≡ false) where
   quiet_call : (r : ℕ) → call_step n (occurs.Result id branch outcome) v r ≡ kept (v.calls r)
-  quiet_call r = by (id.request == r) refl
-    where
-      off : (a : Bool) → (a && false) ≡ false
-      off true = refl
-      off false = refl
-
-      by : (b : Bool) → (id.request == r) ≡ b → call_step n (occurs.Result id branch outcome) v r ≡ kept (v.calls r)
-      by true at =
-          let out : has_out (v.calls r) branch ≡ false = ap (λ m. has_out (v.calls m) branch) (sym (eqb-true id.request r at)) ∙ none in
-          ap (λ b. if is_call id (call_id v.number r) && b then result_on n.moment branch outcome (slice_set (v.calls r).out branch false) (v.calls r).live else kept (v.calls r)) out
-          ∙ ap (λ b. if b then result_on n.moment branch outcome (slice_set (v.calls r).out branch false) (v.calls r).live else kept (v.calls r)) (off (is_call id (call_id v.number r)))
-      by false ne =
-          let apart : is_call id (call_id v.number r) ≡ false = ap (λ b. (id.conn == v.number) && b) ne ∙ off (id.conn == v.number) in
-          ap (λ b. if b && has_out (v.calls r) branch then result_on n.moment branch outcome (slice_set (v.calls r).out branch false) (v.calls r).live else kept (v.calls r)) apart
+  quiet_call r = grind arith
 
   pub unknown_stays : went n (occurs.Result id branch outcome) v ≡ v
   unknown_stays = same_value (went n (occurs.Result id branch outcome) v) v refl refl
@@ -169,20 +88,7 @@ module _ (id : CallId) (branch : ℕ) (outcome : Outcome) (v w : GatewayValue) (
       (fades_adds (came o [] (core_of v).streams (core_of v)) (core_of v) quiet h.opened e h (core_of v) (result_adds h (core_of v) id branch outcome [] (λ c os all. tt)))
     where
       quiet : Fades (came o [] (core_of v).streams (core_of v)) (core_of v)
-      quiet = record {
-        plans_are = refl;
-        now_is = ap (λ m. now_of m v.drained) (omega arith);
-        opened_is = refl;
-        begun_is = refl;
-        waiting_are = sym (ap (λ js. v.jobs ++ js) (unknown_jobs (core_of v).now (connection id.conn v) id branch outcome none) ∙ append-nil v.jobs);
-        conns_are = λ c. each c (id.conn == c) refl;
-        streams_are = λ c still. refl;
-      }
-        where
-          each : (c : ℕ) (b : Bool) → (id.conn == c) ≡ b → FadesTo (if id.conn == c then went (core_of v).now o (connection c v) else connection c v) (connection c v)
-          each c true at = same (sym (ap (λ b. if b then went (core_of v).now o (connection c v) else connection c v) at
-              ∙ unknown_stays (core_of v).now (connection c v) id branch outcome (ap (λ n. has_out ((connection n v).calls id.request) branch) (sym (eqb-true id.conn c at)) ∙ none)))
-          each c false ne = same (sym (ap (λ b. if b then went (core_of v).now o (connection c v) else connection c v) ne))
+      quiet = grind (arith, nat_tests, unknown_jobs, append-nil, FadesTo, o, same, unknown_stays, eqb-true)
 
   -- the connection was kept, and became this
   module _ (k l : HeldConnection) (k_is : conn_of id.conn v ≡ Some k) (s : IsServing v) (m : Moves id.conn (left_of l) v w) (like : Like k l) (holds : Holds l) (jobs : List JobValue)
@@ -210,12 +116,7 @@ module _ (id : CallId) (branch : ℕ) (outcome : Outcome) (v w : GatewayValue) (
 -- ---- a call that is over is forgotten
 
 spent_parts : (c : CallState) → is_spent c ≡ true → (c.live ≡ None) × ((i : ℕ) → has_out c i ≡ false)
-spent_parts c e = by c.live (list_any (λ b. b) c.out) refl refl e
-  where
-    by : (l : Option Live) (b : Bool) → c.live ≡ l → list_any (λ b. b) c.out ≡ b → (is_none l && not b) ≡ true → (c.live ≡ None) × ((i : ℕ) → has_out c i ≡ false)
-    by None false l_is b_is e = (l_is, λ i. none_out c.out i b_is)
-    by None true l_is b_is e = absurd (cc)
-    by (Some l) b l_is b_is e = absurd (cc)
+spent_parts c e = grind (arith, nat_tests, none_out)
 
 forget_fades : (id : CallId) (k l : HeldConnection) → k.number ≡ id.conn → Forgets id k l → FadesTo (connection_of k) (connection_of l)
 forget_fades id k l number_is (stays spent is) = same (ap connection_of is)
@@ -256,9 +157,7 @@ module _ (id : CallId) (branch : ℕ) (v w : GatewayValue) (k l : HeldConnection
       still = (live_goes i k (s.each id.conn k k_is).holds found.0 live).0
 
       broke_is : all_broken (core_of v).now (id.conn ∷ []) (core_of v).conns id.conn ≡ went (core_of v).now (Break k.number) (connection_of k)
-      broke_is =
-          ap (λ b. if b then went (core_of v).now (Break id.conn) (connection id.conn v) else connection id.conn v) (eq-eqb id.conn id.conn refl)
-          ∙ ap (λ x. went (core_of v).now (Break id.conn) x) value_is ∙ ap (λ n. went (core_of v).now (Break n) (connection_of k)) (sym number_is)
+      broke_is = grind (arith, nat_tests)
 
       went_is : went (core_of v).now (occurs.Result id branch outcome) (all_broken (core_of v).now (id.conn ∷ []) (core_of v).conns id.conn) ≡ connection_of (lost_held i branch k)
       went_is = ap (λ x. went (core_of v).now (occurs.Result id branch outcome) x) broke_is ∙ sym (lost_value (core_of v).now k still id branch outcome i (sym number_is) found out)
@@ -305,9 +204,7 @@ results_adds id branch outcome v w took h (there k l jobs k_is t m tally w_is) s
 
     by : TakesResult v.moment id branch outcome k l jobs took → Adds h.opened (event.BranchResult id.conn id.request branch outcome) h (core_of v) (core_of w)
     by (unknown out t l_is none) = unknown_adds id branch outcome v w h (none_out_in id branch v k k_is s out) (unknown_same id v w k l jobs k_is s m w_is l_is none)
-    by (settled i found out t forgets jobs_are own) =
-        settled_adds id branch v w k l k_is s m plans_are now_is (ap (λ (x : GatewayValue). x.opened) w_is) (ap (λ (x : GatewayValue). x.begun) w_is) both.0 both.1 outcome h i found out forgets
-        (ap (λ (x : GatewayValue). x.jobs) w_is ∙ ap (λ js. v.jobs ++ js) jobs_are)
+    by (settled i found out t forgets jobs_are own) = grind (arith, nat_tests, unknown_adds, none_out_in, unknown_same, settled_adds, plans_are, now_is, both, lost_adds)
     by (lost i found out live t forgets none) =
         lost_adds id branch v w k l k_is s m plans_are now_is (ap (λ (x : GatewayValue). x.opened) w_is) (ap (λ (x : GatewayValue). x.begun) w_is) both.0 both.1 outcome h i found out live forgets
         (ap (λ (x : GatewayValue). x.jobs) w_is ∙ ap (λ js. v.jobs ++ js) none)
@@ -337,8 +234,7 @@ starves_adds id branch outcome v w took h (there k l k_is t m tally w_is) s = by
         (ap (λ (x : GatewayValue). x.jobs) w_is ∙ sym (ap (λ js. v.jobs ++ js) (ap (λ (s : Step). s.jobs) (late_step v.moment branch outcome i k none)) ∙ append-nil v.jobs))
       where
         is_dead : (l : Option Live) → is_none l ≡ true → l ≡ None
-        is_dead None e = refl
-        is_dead (Some l) e = absurd (cc)
+        is_dead l h1 = grind (arith, nat_tests)
     by (lost i found out live t forgets) =
         lost_adds id branch v w k l k_is s m plans_are now_is (ap (λ (x : GatewayValue). x.opened) w_is) (ap (λ (x : GatewayValue). x.begun) w_is) both.0 both.1 outcome h i found out live forgets
         (ap (λ (x : GatewayValue). x.jobs) w_is ∙ sym (append-nil v.jobs))

@@ -1,9 +1,6 @@
 -- Truth values, options and results, and facts that hang on one.
-use Rattle.std.proofs.Common.{◌≡◌, ℕ, Bool, true, false, List, [], ◌∷◌, Option, None, Some, ap, arith, refl, rules}
-use Rattle.std.specs.List.{list_any}
-use Rattle.std.specs.Option.{option_or}
-use Rattle.std.specs.Prelude.{◌==◌, ◌&&◌, ◌||◌, Err, Ok, OnErr, Result, filter, not}
-use Rattle.std.proofs.lemmas.Bool.{or_parts}
+use Rattle.gateway_theory.specs.lemmas.Names.{ℕ, Bool, true, false, List, [], Option, None, Some, ap, arith, refl, rules, nat_tests, list_any, option_or, Err, Ok, OnErr, filter, not, or_parts}
+use Rattle.std.specs.Prelude.{Result, ◌≡◌, ◌∷◌, ◌==◌, ◌&&◌, ◌||◌}
 
 pub or_true : (b : Bool) → (b || true) ≡ true
 or_true true = refl
@@ -39,11 +36,7 @@ all_stay p (x ∷ xs) is = let two = or_parts (p x) (list_any p xs) is in rw two
 
 -- the one and not the other
 pub and_off : (a b : Bool) → (a && not b) ≡ true → (a ≡ true) × (b ≡ false)
-and_off true false e = (refl, refl)
-and_off true true e = absurd (cc)
-and_off false b e = absurd (cc)
+and_off a b h2 = grind (arith, nat_tests)
 
 pub and_none : (a b : Bool) → (a && (b && false)) ≡ false
-and_none true true = refl
-and_none true false = refl
-and_none false b = refl
+and_none a b = grind (arith, nat_tests)

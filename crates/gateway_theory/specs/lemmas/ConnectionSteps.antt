@@ -1,40 +1,18 @@
 -- What each occurrence makes of a connection, and of all of them, stands for what occurred.
-use Rattle.std.proofs.Common.{◌≡◌, ℕ, ◌+◌, ◌≤◌, ◌<◌, true, false, List, [], ◌∷◌, ◌++◌, length, Option, None, refl, sym, ◌∙◌, subst, arith, ⊎_elim, Bool, ap, inl, zero, suc, max, map, Some, append_assoc}
-use Rattle.std.specs.Prelude.{◌==◌, if◌then◌else◌, ◌&&◌, ◌||◌, not, is_some, nat_lt}
-use Rattle.std.proofs.lemmas.Bool.{cond_both, cases_Bool, cases_eq, cases_lt, eq-eqb, eqb-true, ltb-true, lt-ltb, ne_eqb}
-use Rattle.std.proofs.lemmas.List.{length-append, get_or_append_left}
+use Rattle.std.specs.Prelude.{◌≡◌, ◌+◌, ◌<◌, ◌∷◌, ◌++◌, ◌==◌, if◌then◌else◌, ◌&&◌, ◌||◌}
+use Rattle.gateway_theory.specs.lemmas.Names.{ℕ, true, false, List, [], length, Option, None, refl, sym, ◌∙◌, subst, arith, ⊎_elim, Bool, ap, inl, zero, suc, max, map, Some, append_assoc, nat_tests, not, nat_lt, cond_both, cases_Bool, eq-eqb, eqb-true, ltb-true, lt-ltb, ne_eqb, length-append, get_or_append_left, get_or-eq_default, CallId, Occurrence, Opening, Comes, HangUp, Moment, Result, Drain, Closing, Coming, Break, Past, call_id, is_call, arrivals, coming_on, coming_now, mark_of, is_broken, call, is_shut, marked, Mark, breaks, is_drain, moment_of, shuts, ReplyEntry, entry, slot_at, is_coming, ConnAfter, MachineState, SlotsStand, ConnStands, option_or, Outcome, PlanRecord, Before, Occurs, connections, is_open, Placed, occurrences, jobs_by, jobs_started, jobs, is_visible, own, ConnectionStands, Now, NowStands, arriving, MayCome, entered, filled, is_shut_value, next, now_after, started_by, state_of, stepped, went, AllStand, all_after, all_started, ConnectionValue, CallStands, kept, JobValue}
 use Rattle.std.proofs.Math.Seq.{get_or-append_seam}
-use Rattle.std.proofs.Math.ListN.{get_or-eq_default}
-use Rattle.gateway_model.specs.declared.id.CallId.{CallId}
-use Rattle.gateway_model.specs.Occurrence.{Occurrence, Opening, Comes, HangUp, Moment, Result, Drain, Closing, Coming, Break}
-use Rattle.gateway_model.specs.Past.{Past, call_id, is_call, arrivals, coming_on, coming_now, mark_of, is_broken, asked_now, call, counts, ends_at_arrival, event_by, is_answer_to, is_shut, is_out, marked, Mark, breaks, is_drain, moment_of, shuts}
-use Rattle.gateway_model.specs.declared.entry.ReplyEntry.{ReplyEntry}
-use Rattle.gateway_model.specs.Queue.{entry}
-use Rattle.gateway_theory.specs.Machine.{slot_at, is_coming, ConnAfter, MachineState}
-use Rattle.gateway_theory.specs.Standing.{SlotsStand, ConnStands}
-use Rattle.std.specs.Option.{option_or}
-use Rattle.connect_codec.specs.declared.answer.Outcome.{Outcome}
-use Rattle.call_plan.specs.Plan.{PlanRecord}
-use Rattle.gateway_model.specs.Events.{Before, Occurs, OccursAt, connections, is_closing_of, is_open, once}
-use Rattle.gateway_model.specs.declared.event.Event.{Event}
-use Rattle.gateway_model.specs.declared.event.Event.TheVariants.{Opening, Piece, HangUp, Moment, BranchResult, Drain, Closing}
-use Rattle.gateway_model.specs.Starts.{Placed, occurrences, jobs_by, jobs_started, jobs}
+use Rattle.gateway_model.specs.declared.event.Event.TheVariants.{Opening, HangUp, Moment, Drain, Closing}
 use Rattle.gateway_theory.specs.lemmas.Cases.{and_false, or_true, or_none}
 use Rattle.gateway_theory.specs.lemmas.CutLemmas.{back, occurrences_onto}
-use Rattle.gateway_theory.specs.lemmas.StandsLemmas.{Quiet, entry_same, started_same}
-use Rattle.gateway_model.specs.Own.{is_visible, own}
+use Rattle.gateway_theory.specs.lemmas.StandsLemmas.{Quiet, started_same}
 use Rattle.gateway_theory.specs.lemmas.OwnLemmas.{own_alike, own_jobs}
-use Rattle.gateway_theory.specs.Connection.{ConnectionStands, Now, NowStands, arriving, MayCome, closes, entered, filled, is_shut_value, next, now_after, started_by, state_of, step, stepped, went, AllStand, all_after, all_started}
-use Rattle.gateway_theory.specs.Values.{ConnectionValue}
-use Rattle.gateway_theory.specs.LiveStands.{CallStands}
-use Rattle.gateway_theory.specs.Step.{kept}
+use Rattle.gateway_theory.specs.Connection.{closes, step}
 use Rattle.gateway_theory.specs.lemmas.Frame.{none_start, unbroken}
 use Rattle.gateway_theory.specs.lemmas.GoingOn.{call_goes, comes_on, conn_goes, next_of, other_goes}
 use Rattle.gateway_theory.specs.lemmas.PrefixLemmas.{after_break, broken_shut}
-use Rattle.gateway_model.specs.Job.{JobValue}
 use Rattle.gateway_theory.specs.lemmas.MachineLemmas.{no_entering, no_entry_yet}
 use Rattle.gateway_theory.specs.lemmas.ShutConns.{quiet_shut}
-use Rattle.gateway_model.specs.Occurrence as occurs
 use Rattle.gateway_model.specs.Past as past
 use Rattle.gateway_theory.specs.LiveStands as one_call
 use Rattle.gateway_theory.specs.Step as call_step
@@ -44,34 +22,13 @@ use Rattle.gateway_theory.specs.Step as call_step
 -- for any other call nothing comes
 pub other_call : (c : ℕ) (x : Coming) (id : CallId) (n : ℕ) (past : Past) → arrivals c past ≡ n → is_call (call_id c n) id ≡ false
     → coming_now id (mark_of past (Comes c x)) past ≡ None
-other_call c x id n past n_is other =
-    ⊎_elim (λ (here : (c == id.conn) ≡ true).
-    let same : c ≡ id.conn = eqb-true c id.conn here in
-    let not_it : (n == id.request) ≡ false = rw here at other in
-    let at_other : (arrivals id.conn past == id.request) ≡ false = rw (← same, n_is) not_it in
-    rw at_other refl)
-    (λ (elsewhere : (c == id.conn) ≡ false).
-    rw elsewhere (cond_both (arrivals id.conn past == id.request) None None (λ o. o ≡ None) (λ _. refl) (λ _. refl)))
-    (cases_Bool (c == id.conn))
+other_call c x id n past n_is other = grind arith
 
 pub more_slots : (c : ℕ) (x : Coming) (old : List (Option ReplyEntry)) (reply : Option ReplyEntry) (past : Past) → SlotsStand c old past → is_broken c past ≡ false
     → ((k : ℕ) → (k ≡ length old → ⊥) → entry (call_id c k) past ≡ entry (call_id c k) (mark_of past (Comes c x) ∷ past))
     → reply ≡ entry (call_id c (length old)) (mark_of past (Comes c x) ∷ past)
     → SlotsStand c (old ++ reply ∷ []) (mark_of past (Comes c x) ∷ past)
-more_slots c x old reply past h on others here = record {
-  size_is = length-append old (reply ∷ []) ∙ rw (eq-eqb c c refl, on) (omega (arith, h.size_is));
-  each = λ k.
-      ⊎_elim (λ (lt : k < length old). get_or_append_left old (reply ∷ []) None k lt ∙ h.each k ∙ others k (λ e. omega (arith, e, lt)))
-      (λ (ge : length old ≤ k).
-      ⊎_elim (λ (same : k ≡ length old).
-      subst (λ n. slot_at n (old ++ reply ∷ []) ≡ entry (call_id c n) (mark_of past (Comes c x) ∷ past)) (sym same)
-      (get_or-append_seam old reply [] None ∙ here))
-      (λ (ne : k ≡ length old → ⊥).
-      get_or-eq_default (old ++ reply ∷ []) None {n = k} (omega (arith, ge, ne, length-append old (reply ∷ [])))
-      ∙ sym (get_or-eq_default old None {n = k} ge) ∙ h.each k ∙ others k ne)
-      (cases_eq k (length old)))
-      (cases_lt k (length old));
-}
+more_slots c x old reply past h on others here = search (arith, nat_tests, length-append, eq-eqb, get_or_append_left, get_or-append_seam, get_or-eq_default)
 
 still_closed : (c : ℕ) (new os : List Occurrence) → is_shut c (marked os) ≡ true → is_shut c (marked (back new os)) ≡ true
 still_closed c [] os e = e
@@ -89,35 +46,7 @@ closed_by plans opened c (e ∷ es) occurred (before, was, (os, at, is)) lt shut
 
     by_known : (b : Bool) → nat_lt c (connections opened es) ≡ b → (c < connections opened es → is_open opened c es ≡ false → is_shut c (marked (occurrences before)) ≡ true)
         → is_shut c (marked (occurrences occurred)) ≡ true
-    by_known false x earlier = absurd (
-        let open_now : is_open opened c (e ∷ es) ≡ true =
-        ap (λ b. if b then is_open opened c es && not (is_closing_of c e) else nat_lt c (connections opened (e ∷ es))) x ∙ lt-ltb c (connections opened (e ∷ es)) lt in
-        let clash : true ≡ false = sym open_now ∙ shut in cc)
-    by_known true x earlier = by_open (is_open opened c es) refl
-      where
-        parts : (is_open opened c es && not (is_closing_of c e)) ≡ false
-        parts = sym (ap (λ b. if b then is_open opened c es && not (is_closing_of c e) else nat_lt c (connections opened (e ∷ es))) x) ∙ shut
-
-        by_open : (b : Bool) → is_open opened c es ≡ b → is_shut c (marked (occurrences occurred)) ≡ true
-        by_open false y = after (still_closed c os (occurrences before) (earlier (ltb-true c (connections opened es) x) y))
-        by_open true y = by_event e refl (closing (is_closing_of c e) (ap (λ b. b && not (is_closing_of c e)) (sym y) ∙ parts))
-          where
-            closing : (b : Bool) → not b ≡ false → b ≡ true
-            closing true z = refl
-            closing false z = absurd (cc)
-
-            by_event : (f : Event) → e ≡ f → is_closing_of c e ≡ true → is_shut c (marked (occurrences occurred)) ≡ true
-            by_event (Closing d) f_is closes =
-                let same : (d == c) ≡ true = ap (is_closing_of c) (sym f_is) ∙ closes in
-                let opens : is_open opened d es ≡ true = ap (λ n. is_open opened n es) (eqb-true d c same) ∙ y in
-                let os_is : os ≡ occurs.Closing d ∷ [] = subst (λ g. OccursAt plans opened g es os) f_is at ∙ ap (λ b. once b (occurs.Closing d)) opens in
-                after (ap (λ us. is_shut c (marked (back us (occurrences before)))) os_is ∙ ap (λ b. b || is_shut c (marked (occurrences before))) same)
-            by_event Opening f_is closes = absurd (let clash : false ≡ true = ap (is_closing_of c) (sym f_is) ∙ closes in cc)
-            by_event (Piece d bytes) f_is closes = absurd (let clash : false ≡ true = ap (is_closing_of c) (sym f_is) ∙ closes in cc)
-            by_event (HangUp d) f_is closes = absurd (let clash : false ≡ true = ap (is_closing_of c) (sym f_is) ∙ closes in cc)
-            by_event (Moment m) f_is closes = absurd (let clash : false ≡ true = ap (is_closing_of c) (sym f_is) ∙ closes in cc)
-            by_event (BranchResult d k i r) f_is closes = absurd (let clash : false ≡ true = ap (is_closing_of c) (sym f_is) ∙ closes in cc)
-            by_event Drain f_is closes = absurd (let clash : false ≡ true = ap (is_closing_of c) (sym f_is) ∙ closes in cc)
+    by_known b h1 h2 = grind (arith, nat_tests, lt-ltb, after, still_closed, ltb-true, eqb-true, back)
 
 -- what is not changes nothing
 pub unseen : (c : ℕ) (v : ConnectionValue) (taken : List ReplyEntry) (o : Occurrence) (os : List Occurrence) → is_visible c o ≡ false
@@ -160,32 +89,12 @@ was_open true b e = absurd (let f : ⊥ = cc in f)
 was_open false b e = e
 
 shut_by : (o : Occurrence) (c : ℕ) (closed broken : Bool) → ((closes c o || closed) || (not (closes c o) && ((breaks c o && not closed) || broken))) ≡ (shuts c o || (closed || broken))
-shut_by (Closing d) c closed broken = either (d == c) closed broken
-  where
-    either : (b closed broken : Bool) → ((b || closed) || (not b && broken)) ≡ (b || (closed || broken))
-    either true closed broken = refl
-    either false closed broken = refl
-shut_by (Break d) c closed broken = either (d == c) closed broken
-  where
-    either : (b closed broken : Bool) → (closed || ((b && not closed) || broken)) ≡ (b || (closed || broken))
-    either true true broken = refl
-    either true false broken = refl
-    either false closed broken = refl
-shut_by (Comes d x) c closed broken = refl
-shut_by Opening c closed broken = refl
-shut_by (HangUp d) c closed broken = refl
-shut_by (Moment m) c closed broken = refl
-shut_by (Result of i outcome) c closed broken = refl
-shut_by Drain c closed broken = refl
+shut_by o c closed broken = grind (arith, nat_tests)
 
 -- broken, unless it is closed
 broken_by : (closes_now closed breaks_now before broken : Bool) → broken ≡ (not closed && before)
     → (not closes_now && ((breaks_now && not closed) || broken)) ≡ (not (closes_now || closed) && (breaks_now || before))
-broken_by true closed breaks_now before broken is = refl
-broken_by false false true before broken is = refl
-broken_by false false false before broken is = is
-broken_by false true true before broken is = is
-broken_by false true false before broken is = is
+broken_by closes_now closed breaks_now before broken h5 = grind (arith, nat_tests)
 
 was_whole : (closed before broken : Bool) → broken ≡ true → broken ≡ (not closed && before) → before ≡ true
 was_whole false before broken on is = sym is ∙ on
@@ -250,15 +159,7 @@ module _ (n : Now) (v : ConnectionValue) (taken : List ReplyEntry) (os : List Oc
 
       pub stays_broken : ConnectionStands v taken (Comes v.number x ∷ os)
       stays_broken = record {
-        conn = λ e. record {
-          taken_is = (h.conn e).taken_is;
-          closed_is = (h.conn e).closed_is;
-          slots_stand = record {
-            size_is = (h.conn e).slots_stand.size_is
-                ∙ sym (ap (λ (y : Option Coming). if is_some y then suc (arrivals v.number its_past) else arrivals v.number its_past) (after_break v.number mark its_past is_it).none_comes);
-            each = λ j. (h.conn e).slots_stand.each j ∙ sym (entry_same (call_id v.number j) mark its_past (quiet j));
-          };
-        };
+        conn = λ e. grind (arith, nat_tests);
         calls = λ k. (other_goes v.number x (call_id v.number k) (v.calls k) n.moment os (none_now k) is_now.moment_is (h.calls k)).stands;
         broken_is = h.broken_is;
         shut_is = h.shut_is;
@@ -358,18 +259,7 @@ module _ (n : Now) (v : ConnectionValue) (taken : List ReplyEntry) (os : List Oc
   step_jobs (Break d) on may = refl
 
 same_number : (n : Now) (o : Occurrence) (v : ConnectionValue) → (step n o v).conn.number ≡ v.number
-same_number n (Comes c x) v = by v.broken
-  where
-    by : (b : Bool) → (if b then stepped v [] else stepped (entered (arriving n x v) v) (arriving n x v).jobs).conn.number ≡ v.number
-    by true = refl
-    by false = refl
-same_number n Opening v = refl
-same_number n (HangUp d) v = refl
-same_number n (Moment m) v = refl
-same_number n (Result of i outcome) v = refl
-same_number n Drain v = refl
-same_number n (Closing d) v = refl
-same_number n (Break d) v = refl
+same_number n o v = grind (arith, nat_tests)
 
 module _ (n : Now) (conns : ℕ → ConnectionValue) (taken : ℕ → List ReplyEntry) (handed waiting : List JobValue) (os : List Occurrence) (h : AllStand n conns taken handed waiting os)
     (o : Occurrence) (may : (c : ℕ) → MayCome o (conns c)) where
@@ -389,12 +279,7 @@ module _ (n : Now) (conns : ℕ → ConnectionValue) (taken : ℕ → List Reply
 
   pub all_stand : (started : List JobValue) → started ≡ jobs_by o (mark_of (marked os) o) (marked os)
       → AllStand (now_after o n) (all_after n o conns) taken handed (waiting ++ started) (o ∷ os)
-  all_stand started is = record {
-    now = now_goes o n os h.now;
-    numbers = λ c. number_by c (is_visible c o);
-    each = λ c. each_by c (is_visible c o) refl;
-    jobs_are = sym (append_assoc handed waiting started) ∙ ap (λ js. js ++ started) h.jobs_are ∙ ap (λ js. jobs (marked os) ++ js) is;
-  }
+  all_stand started is = grind (arith, nat_tests, now_goes, number_by, each_by, append_assoc)
 
 -- whatever occurs
 pub all_step : (n : Now) (conns : ℕ → ConnectionValue) (taken : ℕ → List ReplyEntry) (handed waiting : List JobValue) (os : List Occurrence) (o : Occurrence)

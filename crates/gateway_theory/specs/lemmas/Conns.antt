@@ -1,23 +1,13 @@
 -- The connections of the gateway in one map, and sums over them.
-use Rattle.std.proofs.Common.{◌≡◌, ℕ, zero, suc, ◌+◌, ◌<◌, Bool, true, false, List, [], ◌∷◌, Option, None, Some, refl, sym, ap, ◌∙◌, arith, ◌≤◌, subst}
+use Rattle.std.specs.Prelude.{◌≡◌, ◌+◌, ◌<◌, ◌∷◌, ◌≤◌, ◌==◌, if◌then◌else◌}
+use Rattle.gateway_theory.specs.lemmas.Names.{ℕ, zero, suc, Bool, true, false, List, [], Option, None, Some, refl, sym, ap, ◌∙◌, arith, subst, AllByRecursion, sum_by, option_map_or, nat_lt, eq-eqb, eqb-true, ne_eqb, lt-ltb, nat_tests, sum_by-cons, most_open, ConnectionValue, is_open_value, not_kept, GatewayValue, conn_of, connection, value_of, HeldConnection, connection_of, is_open_conn, open_count, if_open, IsHeld, IsServing, Moves}
 use Rattle.std.specs.BTreeMap.{is_at}
-use Rattle.std.specs.List.{AllByRecursion, sum_by}
 use Rattle.std.specs.List.Sorted.{IsStrictlySortedBy}
 use Rattle.std.specs.Map.{keys_of, lookup, values_of}
-use Rattle.std.specs.Option.{option_map_or}
 use Rattle.std.specs.Ordering.{is_eq, nat_cmp}
 use Rattle.std.specs.declared.cmp.Ordering.TheVariants.{Less}
-use Rattle.std.specs.Prelude.{◌==◌, if◌then◌else◌, ◌&&◌, not, nat_lt}
-use Rattle.std.proofs.lemmas.Bool.{eq-eqb, eqb-true, ne_eqb, lt-ltb}
-use Rattle.std.proofs.lemmas.Bool.Decides.{nat_tests}
-use Rattle.std.proofs.lemmas.List.Sums.{sum_by-cons}
 use Rattle.std.proofs.lemmas.Map.Keys.{sorted_head, sorted_tail}
-use Rattle.gateway_model.specs.Events.{most_open}
 use Rattle.gateway_theory.specs.lemmas.StoreLemmas.{some_same}
-use Rattle.gateway_theory.specs.Values.{ConnectionValue, is_open_value, not_kept, GatewayValue, conn_of, connection, value_of, HeldConnection, connection_of}
-use Rattle.gateway_theory.specs.Gateway.{is_open_conn, one_if_open, open_count, if_open}
-use Rattle.gateway_theory.specs.Serving.{IsHeld, IsServing}
-use Rattle.gateway_theory.specs.Steps.{Moves, open_in}
 use Rattle.gateway_theory.specs.lemmas.HeldSteps.{held_more}
 
 -- a look-up at a number finds that number
@@ -43,16 +33,7 @@ sum_put zero k y g lt none = absurd (omega (arith, lt))
 sum_put (suc n) k y g lt none = by (n == k) refl (λ less. sum_put n k y g less none)
   where
     by : (b : Bool) → (n == k) ≡ b → (k < n → sum_below n (λ c. if c == k then y else g c) ≡ y + sum_below n g) → sum_below n (λ c. if c == k then y else g c) + (if n == k then y else g n) ≡ y + (sum_below n g + g n)
-    by true is rest =
-        let here : n ≡ k = eqb-true n k is in
-        let before : sum_below n (λ c. if c == k then y else g c) ≡ sum_below n g =
-        sum_alike n (λ c. if c == k then y else g c) g (λ c less. ap (λ b. if b then y else g c) (ne_eqb c k (λ e. absurd (omega (arith, less, here, e))))) in
-        let last : (if n == k then y else g n) ≡ y = ap (λ b. if b then y else g n) is in
-        let zero_here : g n ≡ 0 = ap g here ∙ none in omega (arith, before, last, zero_here)
-    by false is rec =
-        let apart : n ≡ k → ⊥ = λ e. let clash : true ≡ false = sym (eq-eqb n k e) ∙ is in absurd (cc) in
-        let rest = rec (omega (arith, lt, apart)) in
-        let last : (if n == k then y else g n) ≡ g n = ap (λ b. if b then y else g n) is in omega (arith, rest, last)
+    by b h1 h2 = grind (arith, nat_tests, eqb-true, sum_below, sum_alike, ne_eqb, eq-eqb)
 
 module _ {X : Type 0} where
   abbrev pub look : ℕ → List (ℕ × X) → Option X
@@ -82,11 +63,7 @@ module _ {X : Type 0} where
       first ∙ ap (λ m. f e.1 + m) rest ∙ sym put ∙ sum_alike n (λ c. if c == e.0 then f e.1 else option_map_or f (look c es) 0) (λ c. option_map_or f (look c (e ∷ es)) 0) (λ c lt. split c)
     where
       split : (c : ℕ) → (if c == e.0 then f e.1 else option_map_or f (look c es) 0) ≡ option_map_or f (look c (e ∷ es)) 0
-      split c = either (c == e.0) ∙ sym (ap (λ o. option_map_or f o 0) (look_first c e es))
-        where
-          either : (b : Bool) → (if b then f e.1 else option_map_or f (look c es) 0) ≡ option_map_or f (if b then Some e.1 else look c es) 0
-          either true = refl
-          either false = refl
+      split c = grind (arith, nat_tests)
 
       later : (o : Option X) → look e.0 es ≡ None → (c : ℕ) (x : X) → look c es ≡ Some x → c < n
       later o none c x is = by (c == e.0) refl
@@ -111,28 +88,10 @@ open_there c v k s is still =
 
 -- of the others
 pub shut_there : (c : ℕ) (v : GatewayValue) (k : HeldConnection) → conn_of c v ≡ Some k → k.closed ≡ true → is_open_conn c v ≡ false
-shut_there c v k is shut = ap (λ (x : ConnectionValue). is_open_value v.opened c x) (there_value c v k is) ∙ ap (λ b. nat_lt c v.opened && not b) shut ∙ none (nat_lt c v.opened)
-  where
-    none : (b : Bool) → (b && false) ≡ false
-    none true = refl
-    none false = refl
+shut_there c v k is shut = grind arith
 
 pub shut_absent : (c : ℕ) (v : GatewayValue) → conn_of c v ≡ None → is_open_conn c v ≡ false
-shut_absent c v is = ap (λ (x : ConnectionValue). is_open_value v.opened c x) (absent_value c v is) ∙ none (nat_lt c v.opened)
-  where
-    none : (b : Bool) → (b && not b) ≡ false
-    none true = refl
-    none false = refl
-
-pub if_open_some : (o : Option HeldConnection) (k : HeldConnection) → if_open o ≡ Some k → (o ≡ Some k) × (k.closed ≡ false)
-if_open_some None k e = absurd (cc)
-if_open_some (Some l) k e = by l.closed refl
-  where
-    by : (b : Bool) → l.closed ≡ b → (Some l ≡ Some k) × (k.closed ≡ false)
-    by true shut = absurd (let clash : None ≡ Some k = sym (ap (λ b. if b then None else Some l) shut) ∙ e in cc)
-    by false still =
-        let same : Some l ≡ Some k = sym (ap (λ b. if b then None else Some l) still) ∙ e in
-        (same, ap (λ (x : HeldConnection). x.closed) (sym (some_same same)) ∙ still)
+shut_absent c v is = grind arith
 
 pub if_open_still : (k : HeldConnection) → k.closed ≡ false → if_open (Some k) ≡ Some k
 if_open_still k still = ap (λ b. if b then None else Some k) still
@@ -152,10 +111,7 @@ module _ (c : ℕ) (now : Option HeldConnection) (v w : GatewayValue) (m : Moves
 
   -- as many are open, where it is as closed as it was
   pub moves_open : (k l : HeldConnection) → conn_of c v ≡ Some k → now ≡ Some l → l.closed ≡ k.closed → open_count w ≡ open_count v
-  moves_open k l was is same =
-      let sum = m.open_is in
-      let old : open_in (conn_of c v) ≡ one_if_open k = ap open_in was in
-      let new : open_in now ≡ one_if_open k = ap open_in is ∙ ap (λ b. if b then 0 else 1) same in omega (arith, sum, old, new)
+  moves_open k l was is same = grind arith
 
   -- a step of one that was kept
   pub moves_kept : (k l : HeldConnection) → conn_of c v ≡ Some k → now ≡ Some l → l.closed ≡ k.closed → w.opened ≡ v.opened → IsServing v → (IsHeld v.opened c k → IsHeld v.opened c l) → IsServing w

@@ -1,56 +1,22 @@
 -- However the input is cut: a piece may come as two.
-use Rattle.std.proofs.Common.{◌≡◌, ℕ, suc, ◌<◌, ◌≤◌, Bool, true, false, List, [], ◌∷◌, ◌++◌, map, length, refl, sym, ap, ◌∙◌, subst, arith, append_assoc, ⊎_elim}
-use Rattle.std.specs.Prelude.{⊤, MatchBool, ◌&&◌, not, nat_lt, ◌==◌, if◌then◌else◌}
-use Rattle.std.proofs.lemmas.Bool.{cond_both, cases_Bool, ltb-true, ltb-false, eq-eqb}
-use Rattle.std.proofs.lemmas.List.{append_cancel_left, append-nil, map-append}
-use Rattle.http_pieces.specs.Request.{HttpRequest}
-use Rattle.http_pieces.specs.Requests.{StreamEnd, Open, RefusedBy, Closed, Requests}
-use Rattle.call_plan.specs.Plan.{PlanRecord}
-use Rattle.gateway_model.specs.Occurrence.{Occurrence, Coming, Comes, Request}
-use Rattle.gateway_model.specs.Arrival.{arrival_of}
+use Rattle.std.specs.Prelude.{◌≡◌, ◌<◌, ◌≤◌, ◌∷◌, ◌++◌, ◌==◌, if◌then◌else◌}
+use Rattle.gateway_theory.specs.lemmas.Names.{ℕ, suc, Bool, true, false, List, [], map, length, refl, sym, ap, ◌∙◌, arith, append_assoc, ⊎_elim, nat_tests, ⊤, MatchBool, cases_Bool, ltb-false, eq-eqb, append_cancel_left, append-nil, map-append, HttpRequest, StreamEnd, Open, RefusedBy, Closed, Requests, PlanRecord, Occurrence, Coming, Comes, JobValue, Placed, occurrences, jobs_by, jobs, starts, Past, mark_of, marked, Event, Piece, Before, succeeds, connections, is_open, hung_up, listens, stream, piece_of, Gains, requests_gained, refusal_gained, OccursAt, Occurs, onto, IsShifted, RequestLaws}
 use Rattle.gateway_theory.specs.lemmas.EventLemmas.{at_unique}
-use Rattle.gateway_model.specs.Job.{JobValue}
-use Rattle.gateway_model.specs.Starts.{Placed, occurrences, jobs_by, jobs, starts}
 use Rattle.gateway_theory.specs.Starting.{start, job_started}
-use Rattle.gateway_model.specs.Past.{Past, mark_of, marked}
-use Rattle.gateway_model.specs.declared.event.Event.{Event}
-use Rattle.gateway_model.specs.declared.event.Event.TheVariants.{Opening, Piece, HangUp, Moment, BranchResult, Drain, Closing}
-use Rattle.gateway_model.specs.Events.{Before, succeeds, connections, is_closing_of, is_open, hung_up, listens, stream, piece_of, Gains, requests_gained, refusal_gained, OccursAt, Occurs, onto, IsShifted}
-use Rattle.gateway_theory.specs.RequestLaws.{RequestLaws}
 use Rattle.gateway_theory.specs.lemmas.Cases.{or_false, and_true, and_false}
 
 -- ---- connections
 
 pub connections_grow : (opened : List ℕ) (e : Event) (es : Before) → connections opened es ≤ connections opened (e ∷ es)
-connections_grow opened Opening es =
-    cond_both (succeeds opened (length es)) (suc (connections opened es)) (connections opened es) (λ n. connections opened es ≤ n) (λ _. omega arith) (λ _. omega arith)
-connections_grow opened (Piece c bytes) es = omega arith
-connections_grow opened (HangUp c) es = omega arith
-connections_grow opened (Moment m) es = omega arith
-connections_grow opened (BranchResult c k i o) es = omega arith
-connections_grow opened Drain es = omega arith
-connections_grow opened (Closing c) es = omega arith
+connections_grow opened e es = grind (arith, nat_tests)
 
 pub open_known : (opened : List ℕ) (c : ℕ) (es : Before) → is_open opened c es ≡ true → c < connections opened es
 open_known opened c [] e = absurd (cc)
-open_known opened c (x ∷ es) e =
-    ⊎_elim (λ (lt : nat_lt c (connections opened es) ≡ true).
-    let l : c < connections opened es = ltb-true c (connections opened es) lt in
-    omega (arith, l, connections_grow opened x es))
-    (λ (ge : nat_lt c (connections opened es) ≡ false). ltb-true c (connections opened (x ∷ es)) (rw ge at e))
-    (cases_Bool (nat_lt c (connections opened es)))
+open_known opened c (x ∷ es) e = grind arith
 
 -- a piece opens, closes and hangs up nothing
 open_piece : (opened : List ℕ) (c conn : ℕ) (bytes : List ℕ) (es : Before) → is_open opened c (Piece conn bytes ∷ es) ≡ is_open opened c es
-open_piece opened c conn bytes es =
-    ⊎_elim (λ (lt : nat_lt c (connections opened es) ≡ true). rw lt (and_true (is_open opened c es)))
-    (λ (ge : nat_lt c (connections opened es) ≡ false).
-    ⊎_elim (λ (yes_open : is_open opened c es ≡ true).
-    absurd (let l : c < connections opened es = open_known opened c es yes_open in
-    let g : connections opened es ≤ c = ltb-false c (connections opened es) ge in omega (arith, l, g)))
-    (λ (shut : is_open opened c es ≡ false). rw (ge, shut) refl)
-    (cases_Bool (is_open opened c es)))
-    (cases_Bool (nat_lt c (connections opened es)))
+open_piece opened c conn bytes es = grind (arith, nat_tests, and_true, open_known, ltb-false)
 
 hung_piece : (opened : List ℕ) (c conn : ℕ) (bytes : List ℕ) (es : Before) → hung_up opened c (Piece conn bytes ∷ es) ≡ hung_up opened c es
 hung_piece opened c conn bytes es = rw (and_false (is_open opened c es)) (or_false (hung_up opened c es))
@@ -69,29 +35,10 @@ pub record IsSame (opened shifted : List ℕ) (es fs : Before) : Type 0 where
 pub listens_same : (opened shifted : List ℕ) (es fs : Before) (c : ℕ) → IsSame opened shifted es fs → listens shifted c fs ≡ listens opened c es
 listens_same opened shifted es fs c h = rw (h.open_is c, h.hung_is c) refl
 
-connections_next : (opened shifted : List ℕ) (e : Event) (es fs : Before) → connections shifted fs ≡ connections opened es
-    → succeeds shifted (length fs) ≡ succeeds opened (length es) → connections shifted (e ∷ fs) ≡ connections opened (e ∷ es)
-connections_next opened shifted Opening es fs h s = rw (s, h) refl
-connections_next opened shifted (Piece c bytes) es fs h s = h
-connections_next opened shifted (HangUp c) es fs h s = h
-connections_next opened shifted (Moment m) es fs h s = h
-connections_next opened shifted (BranchResult c k i o) es fs h s = h
-connections_next opened shifted Drain es fs h s = h
-connections_next opened shifted (Closing c) es fs h s = h
-
 -- one more event, the same for both
 pub same_next : (opened shifted : List ℕ) (e : Event) (es fs : Before) → IsSame opened shifted es fs
     → succeeds shifted (length fs) ≡ succeeds opened (length es) → IsSame opened shifted (e ∷ es) (e ∷ fs)
-same_next opened shifted e es fs h s = record {
-  connections_are = connections_next opened shifted e es fs h.connections_are s;
-  open_is = λ c.
-      ap (λ n. if nat_lt c n then is_open shifted c fs && not (is_closing_of c e) else nat_lt c (connections shifted (e ∷ fs))) h.connections_are
-      ∙ ap (λ b. if nat_lt c (connections opened es) then b && not (is_closing_of c e) else nat_lt c (connections shifted (e ∷ fs))) (h.open_is c)
-      ∙ ap (λ n. if nat_lt c (connections opened es) then is_open opened c es && not (is_closing_of c e) else nat_lt c n)
-      (connections_next opened shifted e es fs h.connections_are s);
-  hung_is = λ c. rw (h.hung_is c, h.open_is c) refl;
-  stream_is = λ c. rw (listens_same opened shifted es fs c h, h.stream_is c) refl;
-}
+same_next opened shifted e es fs h s = grind arith
 
 -- the events before the piece
 pub same_before : (opened shifted : List ℕ) (n : ℕ) (es : Before) → length es ≤ n → IsShifted n opened shifted → IsSame opened shifted es es
@@ -129,10 +76,7 @@ length_more (x ∷ later) before e = omega (arith, length_more later before e)
 same_later : (opened shifted : List ℕ) (later before : Before) (conn : ℕ) (p q : List ℕ) → IsShifted (length before) opened shifted
     → IsSame opened shifted (later ++ Piece conn (p ++ q) ∷ before) (later ++ Piece conn q ∷ Piece conn p ∷ before)
 same_later opened shifted [] before conn p q h = same_piece opened shifted conn p q before (same_before opened shifted (length before) before (omega arith) h)
-same_later opened shifted (e ∷ later) before conn p q h =
-    same_next opened shifted e (later ++ Piece conn (p ++ q) ∷ before) (later ++ Piece conn q ∷ Piece conn p ∷ before)
-    (same_later opened shifted later before conn p q h)
-    (ap (succeeds shifted) (length_split later before conn p q) ∙ h.after (length (later ++ Piece conn (p ++ q) ∷ before)) (length_more later before (Piece conn (p ++ q))))
+same_later opened shifted (e ∷ later) before conn p q h = grind (arith, nat_tests, same_later opened shifted later before conn p q h, same_next, length_split, length_more)
 
 -- ---- what the two pieces bring is what the one brings
 
@@ -144,30 +88,16 @@ IsFinal Closed = ⊤
 
 -- what was refused or closed stays so
 requests_stay : RequestLaws → (k : ℕ) (s more : List ℕ) (given : List HttpRequest) (ending : StreamEnd) → IsFinal ending → Requests k s given ending → Requests k (s ++ more) given ending
-requests_stay laws k s more given (Open left) final h = absurd final
-requests_stay laws k s more given (RefusedBy r) final h = laws.refused_stays k s more given r h
-requests_stay laws k s more given Closed final h = laws.closed_stays k s more given h
+requests_stay h0 k s more given ending h6 h7 = grind (arith, nat_tests)
 
 refusal_open : (k l : List ℕ) (e : StreamEnd) → refusal_gained (Open k) e ≡ refusal_gained (Open l) e
-refusal_open k l (Open m) = refl
-refusal_open k l (RefusedBy r) = refl
-refusal_open k l Closed = refl
+refusal_open k l e = grind (arith, nat_tests)
 
 join_gains : (plans : List PlanRecord) (e0 e1 e2 : StreamEnd) (m1 m2 : List HttpRequest)
     → (IsFinal e0 → e1 ≡ e0) → (IsFinal e1 → (m2 ≡ []) × (e2 ≡ e1))
     → requests_gained plans (m1 ++ m2) ++ refusal_gained e0 e2
     ≡ (requests_gained plans m1 ++ refusal_gained e0 e1) ++ (requests_gained plans m2 ++ refusal_gained e1 e2)
-join_gains plans (Open k) (Open l) e2 m1 m2 early late =
-    rw (map-append (λ q. Request q (arrival_of plans q)) m1 m2, append-nil (requests_gained plans m1), refusal_open l k e2)
-    (append_assoc (requests_gained plans m1) (requests_gained plans m2) (refusal_gained (Open k) e2))
-join_gains plans (RefusedBy r) (Open l) e2 m1 m2 early late = absurd (let clash : Open l ≡ RefusedBy r = early tt in cc)
-join_gains plans Closed (Open l) e2 m1 m2 early late = absurd (let clash : Open l ≡ Closed = early tt in cc)
-join_gains plans e0 (RefusedBy r) e2 m1 m2 early late =
-    let l = late tt in
-    rw (l.0, l.1, append-nil m1, append-nil (requests_gained plans m1 ++ refusal_gained e0 (RefusedBy r))) refl
-join_gains plans e0 Closed e2 m1 m2 early late =
-    let l = late tt in
-    rw (l.0, l.1, append-nil m1, append-nil (requests_gained plans m1 ++ refusal_gained e0 Closed)) refl
+join_gains plans e0 e1 e2 m1 m2 h6 h7 = grind (arith, nat_tests, map-append, append-nil, refusal_open, append_assoc)
 
 -- a stream that has ended brings nothing more
 after_final : RequestLaws → (s more : List ℕ) (given later : List HttpRequest) (e f : StreamEnd) → Requests 0 s given e → Requests 0 (s ++ more) (given ++ later) f
@@ -178,21 +108,7 @@ after_final laws s more given later e f h g final =
 
 pub gains_both : RequestLaws → (plans : List PlanRecord) (s p q : List ℕ) (x y z : List Coming)
     → Gains plans s (s ++ p) x → Gains plans (s ++ p) ((s ++ p) ++ q) y → Gains plans s (s ++ (p ++ q)) z → z ≡ x ++ y
-gains_both laws plans s p q x y z g h w =
-    let middle = laws.unique 0 (s ++ p) (g.given ++ g.more) h.given g.later h.ending g.longer_is h.text_is in
-    let start = laws.unique 0 s w.given g.given w.ending g.ending w.text_is g.text_is in
-    let far : Requests 0 (s ++ (p ++ q)) (h.given ++ h.more) h.later = subst (λ t. Requests 0 t (h.given ++ h.more) h.later) (append_assoc s p q) h.longer_is in
-    let end = laws.unique 0 (s ++ (p ++ q)) (w.given ++ w.more) (h.given ++ h.more) w.later h.later w.longer_is far in
-    let all : g.given ++ w.more ≡ g.given ++ (g.more ++ h.more) =
-    ap (λ xs. xs ++ w.more) (sym start.0) ∙ end.0 ∙ ap (λ xs. xs ++ h.more) (sym middle.0) ∙ append_assoc g.given g.more h.more in
-    let more : w.more ≡ g.more ++ h.more = append_cancel_left g.given w.more (g.more ++ h.more) all in
-    let early : IsFinal g.ending → g.later ≡ g.ending = λ final. (after_final laws s p g.given g.more g.ending g.later g.text_is g.longer_is final).1 in
-    let late : IsFinal h.ending → (h.more ≡ []) × (h.later ≡ h.ending) = after_final laws (s ++ p) q h.given h.more h.ending h.later h.text_is h.longer_is in
-    let joined = join_gains plans g.ending h.ending h.later g.more h.more (λ final. sym middle.1 ∙ early final) late in
-    let z_is : z ≡ requests_gained plans (g.more ++ h.more) ++ refusal_gained g.ending h.later = rw (more, start.1, end.1) at w.gained_is in
-    let sum : x ++ y ≡ (requests_gained plans g.more ++ refusal_gained g.ending h.ending) ++ (requests_gained plans h.more ++ refusal_gained h.ending h.later) =
-    rw (g.gained_is, h.gained_is, middle.1) refl in
-    z_is ∙ joined ∙ sym sum
+gains_both laws plans s p q x y z g h w = grind (arith, nat_tests, append_assoc, append_cancel_left, after_final, join_gains)
 
 -- ---- occurrences
 
@@ -212,20 +128,12 @@ occurrences_onto place (o ∷ os) past = occurrences_onto place os ((place, o) �
 -- an event brings the same after lists that come to the same
 pub at_same : (plans : List PlanRecord) (opened shifted : List ℕ) (e : Event) (es fs : Before) (os : List Occurrence) → IsSame opened shifted es fs
     → succeeds shifted (length fs) ≡ succeeds opened (length es) → OccursAt plans shifted e fs os → OccursAt plans opened e es os
-at_same plans opened shifted Opening es fs os h s x = rw s at x
-at_same plans opened shifted (Piece conn bytes) es fs os h s x = rw (listens_same opened shifted es fs conn h, h.stream_is conn) at x
-at_same plans opened shifted (HangUp conn) es fs os h s x = rw (listens_same opened shifted es fs conn h) at x
-at_same plans opened shifted (Moment m) es fs os h s x = x
-at_same plans opened shifted (BranchResult conn k i o) es fs os h s x = x
-at_same plans opened shifted Drain es fs os h s x = x
-at_same plans opened shifted (Closing conn) es fs os h s x = rw (h.open_is conn) at x
+at_same plans opened shifted e es fs os h7 h8 h9 = grind (arith, nat_tests)
 
 step_same : RequestLaws → (plans : List PlanRecord) (opened shifted : List ℕ) (e : Event) (es fs : Before) (m n : ℕ) (a b : List Placed) (os us : List Occurrence)
     → IsSame opened shifted es fs → succeeds shifted (length fs) ≡ succeeds opened (length es) → occurrences a ≡ occurrences b
     → OccursAt plans opened e es os → OccursAt plans shifted e fs us → occurrences (onto m os a) ≡ occurrences (onto n us b)
-step_same laws plans opened shifted e es fs m n a b os us same s past h g =
-    let one : os ≡ us = at_unique laws plans opened e es os us h (at_same plans opened shifted e es fs us same s g) in
-    occurrences_onto m os a ∙ rw (one, past) (sym (occurrences_onto n us b))
+step_same laws plans opened shifted e es fs m n a b os us same s past h g = grind (arith, nat_tests, at_unique, at_same, occurrences_onto)
 
 before_same : RequestLaws → (plans : List PlanRecord) (opened shifted : List ℕ) (n : ℕ) (es : Before) (a b : List Placed) → length es ≤ n → IsShifted n opened shifted
     → Occurs plans opened es a → Occurs plans shifted es b → occurrences a ≡ occurrences b

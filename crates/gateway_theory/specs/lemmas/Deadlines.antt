@@ -1,17 +1,7 @@
 -- What is known of the deadlines of branches, and of the one that decides.
-use Rattle.std.proofs.Common.{◌≡◌, ℕ, zero, suc, ◌+◌, ◌<◌, ◌≤◌, min, Bool, true, false, List, [], ◌∷◌, ◌++◌, map, length, Option, None, Some, refl, sym, ap, ◌∙◌, arith, ⊎_elim, inl, inr}
-use Rattle.std.specs.Prelude.{◌⊎◌, ◌||◌, ◌==◌, nat_le, if◌then◌else◌, slice_index_or, option_and_then, option_map}
-use Rattle.std.specs.Option.{option_map_or}
-use Rattle.std.specs.List.{list_any, range_with_len}
-use Rattle.std.proofs.lemmas.Bool.{cases_Bool, eqb-true, le-ltb, lt-ltb}
-use Rattle.std.proofs.lemmas.List.FromFn.{length-map-range_with_len, get_or-map-range_with_len, map-range_with_len_more}
-use Rattle.std.proofs.lemmas.List.{ext_get_or}
-use Rattle.call_plan.specs.Plan.{PlanRecord, time_of}
-use Rattle.gateway_model.specs.declared.id.CallId.{CallId}
-use Rattle.gateway_model.specs.declared.call_event.CallEvent.{CallEvent}
-use Rattle.gateway_model.specs.declared.call_event.CallEvent.TheVariants.{Expired, BranchExpired}
-use Rattle.gateway_model.specs.Past.{Mark, Past, ArrivedCall, call, started, started_when, is_out, now, smaller, is_due, least_of, is_at, first_at, due_by, deadline_from, branch_deadlines, deadlines_out}
-use Rattle.gateway_theory.specs.Step.{deadlines_in}
+use Rattle.std.specs.Prelude.{◌≡◌, ◌+◌, ◌<◌, ◌≤◌, ◌∷◌, ◌++◌, ◌⊎◌, ◌||◌, if◌then◌else◌}
+use Rattle.gateway_theory.specs.lemmas.Names.{ℕ, zero, suc, Bool, true, false, List, [], map, length, Option, None, Some, refl, sym, ap, ◌∙◌, arith, ⊎_elim, inl, inr, nat_tests, nat_le, slice_index_or, option_and_then, option_map_or, list_any, range_with_len, cases_Bool, eqb-true, le-ltb, lt-ltb, length-map-range_with_len, get_or-map-range_with_len, map-range_with_len_more, ext_get_or, PlanRecord, time_of, CallId, CallEvent, Expired, BranchExpired, Mark, Past, ArrivedCall, call, started, started_when, is_out, now, smaller, is_due, least_of, first_at, due_by, deadline_from, branch_deadlines, deadlines_out, deadlines_in}
+use Rattle.gateway_model.specs.Past.{is_at}
 use Rattle.gateway_theory.specs.lemmas.LimitLemmas.{out_started}
 
 -- the deadline of a branch that has started
@@ -24,17 +14,8 @@ deadline_out id plan past i = option_and_then (λ t. if is_out id i past then So
 
 -- ---- the least
 
-min_due : (m s t : ℕ) → nat_le (min s t) m ≡ (nat_le s m || nat_le t m)
-min_due m s t = grind arith
-
 pub due_smaller : (m : ℕ) (a b : Option ℕ) → is_due m (smaller a b) ≡ (is_due m a || is_due m b)
-due_smaller m None b = refl
-due_smaller m (Some s) None = by (nat_le s m)
-  where
-    by : (b : Bool) → b ≡ (b || false)
-    by true = refl
-    by false = refl
-due_smaller m (Some s) (Some t) = min_due m s t
+due_smaller m a b = grind (arith, nat_tests)
 
 at_is : (at : ℕ) (d : Option ℕ) → is_at at d ≡ true → d ≡ Some at
 at_is at None e = absurd (cc)
@@ -42,19 +23,12 @@ at_is at (Some d) e = ap (λ n. Some n) (eqb-true d at e)
 
 -- the smaller of two is the one or the other
 smaller_other : (at : ℕ) (d l : Option ℕ) → smaller d l ≡ Some at → is_at at d ≡ false → l ≡ Some at
-smaller_other at None l e n = e
-smaller_other at (Some d) None e n = absurd (let same : d ≡ at = cc in let bad : (d == at) ≡ true = grind arith in let no : true ≡ false = sym bad ∙ n in cc)
-smaller_other at (Some d) (Some k) e n =
-    let least : min d k ≡ at = cc in
-    ap (λ x. Some x) (⊎_elim (λ (yes : (k == at) ≡ true). eqb-true k at yes) (λ (no : (k == at) ≡ false). absurd (grind arith)) (cases_Bool (k == at)))
+smaller_other at d l h3 h4 = grind (arith, nat_tests)
 
 -- the least is one of them
 pub least_found : (ds : List (Option ℕ)) (at : ℕ) → least_of ds ≡ Some at → list_any (is_at at) ds ≡ true
 least_found [] at e = absurd (cc)
-least_found (d ∷ ds) at e =
-    ⊎_elim (λ (yes : is_at at d ≡ true). rw yes refl)
-    (λ (no : is_at at d ≡ false). rw no (least_found ds at (smaller_other at d (least_of ds) e no)))
-    (cases_Bool (is_at at d))
+least_found (d ∷ ds) at e = grind (arith, least_found ds at)
 
 -- it stands at the first place that has it
 pub first_found : (ds : List (Option ℕ)) (at k : ℕ) → list_any (is_at at) ds ≡ true
@@ -85,8 +59,7 @@ expires moment deadline outs e is = by_least (smaller deadline (least_of outs)) 
         inr (found.0, sym event ∙ ap (λ k. BranchExpired k moment) place, found.3, rw found.2 r_is)
 
     by_least : (s : Option ℕ) → smaller deadline (least_of outs) ≡ s → ExpiresBy moment deadline outs e
-    by_least None s_is = absurd (let none : due_by moment deadline outs ≡ None = rw s_is refl in let bad : None ≡ Some e = sym none ∙ is in cc)
-    by_least (Some at) s_is = by_at at s_is (nat_le at moment) (is_at at deadline) refl refl (rw s_is at is)
+    by_least s h1 = grind (arith, nat_tests, by_at)
 
 -- ---- lists of deadlines
 
@@ -104,9 +77,7 @@ when_now id i m past ge = rw (le-ltb i (started id past) ge) refl
 
 -- those of the branches that had started stay
 stay : (id : CallId) (plan : PlanRecord) (m : Mark) (past : Past) → map (branch_deadline id plan (m ∷ past)) (range_with_len 0 (started id past)) ≡ map (branch_deadline id plan past) (range_with_len 0 (started id past))
-stay id plan m past =
-    on_range None (branch_deadline id plan (m ∷ past)) (branch_deadline id plan past) (started id past)
-    (λ i lt. ap (λ moment. deadline_from moment plan i) (when_same id i m past lt))
+stay id plan m past = grind (arith, nat_tests, on_range, when_same)
 
 -- where no more branches have started they are those of before
 pub deadlines_same : (id : CallId) (m : Mark) (past : Past) → call id (m ∷ past) ≡ call id past → started id (m ∷ past) ≡ started id past
@@ -117,8 +88,7 @@ deadlines_same id m past call_is same =
     by_call : (o : Option ArrivedCall)
         → option_map_or (λ c. map (branch_deadline id c.plan (m ∷ past)) (range_with_len 0 (started id (m ∷ past)))) o []
         ≡ option_map_or (λ c. map (branch_deadline id c.plan past) (range_with_len 0 (started id past))) o []
-    by_call None = refl
-    by_call (Some a) = ap (λ n. map (branch_deadline id a.plan (m ∷ past)) (range_with_len 0 n)) same ∙ stay id a.plan m past
+    by_call o = grind (arith, nat_tests, branch_deadline, stay)
 
 pub deadlines_of : (id : CallId) (a : ArrivedCall) (past : Past) → call id past ≡ Some a
     → branch_deadlines id past ≡ map (branch_deadline id a.plan past) (range_with_len 0 (started id past))
@@ -136,10 +106,7 @@ deadlines_more id a m past was is one =
 -- where the first ones start
 pub deadlines_first : (id : CallId) (a : ArrivedCall) (m : Mark) (past : Past) (n : ℕ) → call id (m ∷ past) ≡ Some a → started id past ≡ 0 → started id (m ∷ past) ≡ n
     → branch_deadlines id (m ∷ past) ≡ map (deadline_from (now past) a.plan) (range_with_len 0 n)
-deadlines_first id a m past n call_is none first =
-    deadlines_of id a (m ∷ past) call_is ∙ ap (λ k. map (branch_deadline id a.plan (m ∷ past)) (range_with_len 0 k)) first
-    ∙ on_range None (branch_deadline id a.plan (m ∷ past)) (deadline_from (now past) a.plan) n
-    (λ i lt. ap (λ moment. deadline_from moment a.plan i) (when_now id i m past (omega (arith, none))))
+deadlines_first id a m past n call_is none first = grind arith
 
 -- ---- those of the branches that are out
 
@@ -169,21 +136,12 @@ in_at (b ∷ out) (d ∷ ds) (suc j) lt = in_at out ds j (omega (arith, lt))
 
 out_deadline : (id : CallId) (plan : PlanRecord) (past : Past) (j : ℕ) (b : Bool) → is_out id j past ≡ b
     → deadline_out id plan past j ≡ (if b then branch_deadline id plan past j else None)
-out_deadline id plan past j b b_is = rw b_is (by_time b (time_of plan j))
-  where
-    by_time : (b : Bool) (t : Option ℕ)
-        → option_and_then (λ t. if b then Some (started_when id j past + t) else None) t ≡ (if b then option_map (λ t. started_when id j past + t) t else None)
-    by_time true None = refl
-    by_time true (Some t) = refl
-    by_time false None = refl
-    by_time false (Some t) = refl
+out_deadline id plan past j b b_is = grind arith
 
 -- the deadline of one that has started stands at its place
 pub deadline_at : (id : CallId) (a : ArrivedCall) (past : Past) (j : ℕ) → call id past ≡ Some a → j < started id past
     → slice_index_or (branch_deadlines id past) j None ≡ branch_deadline id a.plan past j
-deadline_at id a past j call_is lt =
-    ap (λ ds. slice_index_or ds j None) (deadlines_of id a past call_is)
-    ∙ get_or-map-range_with_len (branch_deadline id a.plan past) 0 (started id past) j j None lt (omega arith)
+deadline_at id a past j call_is lt = grind (arith, nat_tests, deadlines_of, get_or-map-range_with_len)
 
 -- what is kept of the deadlines says which ones stand
 pub outs_are : (id : CallId) (a : ArrivedCall) (out : List Bool) (past : Past) → call id past ≡ Some a → length out ≡ length a.plan.branches
@@ -208,16 +166,4 @@ outs_are id a out past call_is size out_is =
 pub reached_out : (id : CallId) (a : ArrivedCall) (past : Past) (moment k : ℕ) → call id past ≡ Some a → k < length (deadlines_out id a.plan past)
     → is_due moment (slice_index_or (deadlines_out id a.plan past) k None) ≡ true
     → (is_out id k past ≡ true) × (is_due moment (slice_index_or (branch_deadlines id past) k None) ≡ true)
-reached_out id a past moment k call_is lt due = by_out (is_out id k past) refl
-  where
-    here : slice_index_or (deadlines_out id a.plan past) k None ≡ deadline_out id a.plan past k
-    here = get_or-map-range_with_len (deadline_out id a.plan past) 0 (length a.plan.branches) k k None
-        (omega (arith, lt, length-map-range_with_len (deadline_out id a.plan past) 0 (length a.plan.branches))) (omega arith)
-
-    by_out : (b : Bool) → is_out id k past ≡ b → (is_out id k past ≡ true) × (is_due moment (slice_index_or (branch_deadlines id past) k None) ≡ true)
-    by_out true b_is =
-        let is = deadline_at id a past k call_is (out_started id k past b_is) ∙ sym (out_deadline id a.plan past k true b_is) ∙ sym here in
-        (b_is, rw is due)
-    by_out false b_is = absurd (
-        let none : slice_index_or (deadlines_out id a.plan past) k None ≡ None = here ∙ out_deadline id a.plan past k false b_is in
-        let bad : false ≡ true = ap (is_due moment) (sym none) ∙ due in cc)
+reached_out id a past moment k call_is lt due = grind (arith, nat_tests, get_or-map-range_with_len, length-map-range_with_len, deadline_at, out_started, out_deadline)

@@ -1,21 +1,10 @@
 -- Events come to one list of occurrences.
-use Rattle.std.proofs.Common.{◌≡◌, ℕ, Bool, true, false, List, [], ◌∷◌, ◌++◌, map, refl, sym, ap, ◌∙◌}
-use Rattle.std.specs.Prelude.{MatchBool}
-use Rattle.std.proofs.lemmas.List.{append_cancel_left}
-use Rattle.call_plan.specs.Plan.{PlanRecord}
-use Rattle.gateway_model.specs.Occurrence.{Occurrence, Coming, Comes}
-use Rattle.gateway_model.specs.Starts.{Placed}
-use Rattle.gateway_theory.specs.RequestLaws.{RequestLaws}
-use Rattle.gateway_model.specs.declared.event.Event.{Event}
-use Rattle.gateway_model.specs.declared.event.Event.TheVariants.{Opening, Piece, HangUp, Moment, BranchResult, Drain, Closing}
-use Rattle.gateway_model.specs.Events.{Before, Gains, OccursAt, onto, listens, stream}
+use Rattle.std.specs.Prelude.{◌≡◌, ◌∷◌, ◌++◌}
+use Rattle.gateway_theory.specs.lemmas.Names.{ℕ, Bool, true, false, List, [], map, refl, sym, ap, ◌∙◌, arith, nat_tests, MatchBool, append_cancel_left, PlanRecord, Occurrence, Coming, Comes, Placed, RequestLaws, Event, Piece, BranchResult, Before, Gains, OccursAt, onto, listens, stream}
+use Rattle.gateway_model.specs.declared.event.Event.TheVariants.{Opening, HangUp, Moment, Drain, Closing}
 
 pub gains_unique : RequestLaws → (plans : List PlanRecord) (text longer : List ℕ) (a b : List Coming) → Gains plans text longer a → Gains plans text longer b → a ≡ b
-gains_unique laws plans text longer a b g h =
-    let front = laws.unique 0 text g.given h.given g.ending h.ending g.text_is h.text_is in
-    let whole = laws.unique 0 longer (g.given ++ g.more) (h.given ++ h.more) g.later h.later g.longer_is h.longer_is in
-    let more : g.more ≡ h.more = append_cancel_left h.given g.more h.more (ap (λ xs. xs ++ g.more) (sym front.0) ∙ whole.0) in
-    g.gained_is ∙ rw (more, front.1, whole.1) (sym h.gained_is)
+gains_unique laws plans text longer a b g h = grind (arith, nat_tests, append_cancel_left)
 
 pub both_ways : (b : Bool) (P Q : List Occurrence → Type 0) (x y : List Occurrence)
     → (P x → P y → x ≡ y) → (Q x → Q y → x ≡ y) → MatchBool b (P x) (Q x) → MatchBool b (P y) (Q y) → x ≡ y

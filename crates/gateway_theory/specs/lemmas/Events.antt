@@ -1,41 +1,20 @@
 -- What decides a call concerns its connection; what the events and the breaks at them make of the connections.
-use Rattle.std.proofs.Common.{◌≡◌, ℕ, Bool, true, false, List, [], None, refl, sym, ap, ◌∙◌, ⊎_elim, zero, suc, ◌≤◌, ◌<◌, Option, Some, arith, ◌∷◌, ◌++◌, subst}
-use Rattle.std.specs.Prelude.{if◌then◌else◌, ◌&&◌, not, ◌==◌, slice_set, slice_index_or, nat_lt, is_some, option_and_then, is_none, ◌||◌}
-use Rattle.std.proofs.lemmas.Bool.{cond_both, cases_Bool, eqb-true, cases_lt, ltb-false, eq-eqb}
-use Rattle.connect_codec.specs.declared.answer.Outcome.{Outcome}
-use Rattle.gateway_model.specs.declared.id.CallId.{CallId}
-use Rattle.gateway_model.specs.Occurrence.{Occurrence, Opening, Comes, HangUp, Moment, Result, Drain, Closing, Break}
-use Rattle.gateway_model.specs.Past.{call, is_call, is_result_of, Past, ArrivedCall, call_id, is_out, is_shut, answers, branches, decides, deadlines_out, due_by, event_by, is_undecided, arrivals, now, own_event, deciding, count_below, mark_of, counts, decided, marked, is_broken}
+use Rattle.std.specs.Prelude.{◌≡◌, ◌<◌, ◌∷◌, ◌++◌, if◌then◌else◌, ◌&&◌, ◌==◌, ◌||◌}
+use Rattle.gateway_theory.specs.lemmas.Names.{ℕ, Bool, true, false, List, [], None, refl, sym, ap, ◌∙◌, zero, suc, Option, Some, arith, subst, nat_tests, not, slice_set, slice_index_or, nat_lt, is_some, is_none, eqb-true, eq-eqb, Outcome, CallId, Occurrence, Opening, Comes, HangUp, Moment, Result, Drain, Closing, Break, call, is_call, is_result_of, Past, ArrivedCall, call_id, is_out, is_shut, due_by, is_undecided, arrivals, now, deciding, count_below, mark_of, counts, marked, is_broken, Step, has_out, kept, step, deadlines_in, ended_by, moment_after, result_on, CallState, call_state, Live, ConnectionValue, is_open_value, CallStays, NothingOf, option_or, CallEvent, LiveStands, CallStands, concerns, decided_by, ReplyEntry, JobValue, is_visible, own, is_break, AllStand, Now, breaks_of, call_step, MayCome, all_after, all_started, is_shut_value, now_after, went, Before, OccursAt, listens, once, Event, History, occurrences, Adds, CoreValue, HasConns, StreamValue, is_heard}
 use Rattle.gateway_theory.specs.lemmas.Cases.{and_true}
-use Rattle.gateway_theory.specs.Step.{Step, has_out, kept, step, deadlines_in, ended_by, moment_after, result_on}
-use Rattle.gateway_theory.specs.Values.{CallState, call_state, Live, ConnectionValue, is_open_value}
 use Rattle.gateway_theory.specs.lemmas.StepLemmas.{back_out, moment_ends}
-use Rattle.gateway_theory.specs.Breaks.{CallStays, NothingOf}
-use Rattle.std.specs.Option.{option_map_or, option_or}
-use Rattle.gateway_model.specs.declared.call_event.CallEvent.{CallEvent}
-use Rattle.gateway_model.specs.declared.call_event.CallEvent.TheVariants.{Drained}
 use Rattle.gateway_theory.specs.lemmas.LimitLemmas.{same_call}
 use Rattle.gateway_theory.specs.lemmas.Unborn.{unborn}
-use Rattle.gateway_theory.specs.LiveStands.{LiveStands, CallStands, MayLive}
 use Rattle.gateway_theory.specs.lemmas.Deadlines.{outs_are}
 use Rattle.gateway_theory.specs.lemmas.Frame.{own_before}
 use Rattle.gateway_theory.specs.lemmas.ConnectionSteps.{now_own, all_step}
 use Rattle.gateway_theory.specs.lemmas.MachineLemmas.{no_entering}
-use Rattle.gateway_model.specs.Concerns.{concerns, decided_by}
-use Rattle.gateway_model.specs.declared.entry.ReplyEntry.{ReplyEntry}
-use Rattle.gateway_model.specs.Job.{JobValue}
-use Rattle.gateway_model.specs.Own.{is_visible, own, is_break}
 use Rattle.gateway_theory.specs.lemmas.OwnLemmas.{Alike, own_alike}
-use Rattle.gateway_theory.specs.Connection.{AllStand, Now, breaks_of, call_step, MayCome, all_after, all_started, is_shut_value, now_after, went, closes}
+use Rattle.gateway_theory.specs.Connection.{closes}
 use Rattle.gateway_theory.specs.lemmas.Broadcast.{all_broken, breaks_stand, listed, not_broken, AreOnce, drain_stands, moment_stands}
-use Rattle.gateway_model.specs.Events.{Before, OccursAt, listens, once}
 use Rattle.gateway_theory.specs.lemmas.Adding.{MayBreak, Newer, one_newer, breaks_each, AreBreaks, none_newer, StandsNow, adds_event, none_more}
 use Rattle.gateway_theory.specs.lemmas.Knowing.{broken_stands}
-use Rattle.gateway_model.specs.declared.event.Event.{Event}
-use Rattle.gateway_model.specs.History.{History}
-use Rattle.gateway_model.specs.Starts.{occurrences}
 use Rattle.gateway_theory.specs.lemmas.PrefixLemmas.{broken_shut}
-use Rattle.gateway_theory.specs.Core.{Adds, CoreValue, HasConns, StreamValue, is_heard}
 use Rattle.gateway_theory.specs.lemmas.Standing.{outs_stand}
 use Rattle.gateway_theory.specs.lemmas.ServedLemmas.{Stays, hung_if, is_listening, stays_itself, stays_then, streams_closed, streams_hung, streams_stay, streams_unclosed, unclosed, went_stays}
 use Rattle.gateway_model.specs.declared.event.Event.TheVariants as event
@@ -50,100 +29,34 @@ kept_quiet id o c none = (record { outs_are = λ k. sym (and_true (has_out c k))
 
 quiet_result : (id of : CallId) (i : ℕ) (r : Outcome) (out : List Bool) (b d : Bool) → is_call of id ≡ b → slice_index_or out i false ≡ d
     → Quiet id (Result of i r) (call_state out None) (if b && d then kept (call_state (slice_set out i false) None) else kept (call_state out None))
-quiet_result id of i r out false d b_is d_is = kept_quiet id (Result of i r) (call_state out None) (λ k. rw b_is refl)
-quiet_result id of i r out true true b_is d_is = (record { outs_are = λ k. back_out out i k ∙ rw b_is refl }, refl, refl)
-quiet_result id of i r out true false b_is d_is = (record { outs_are = λ k. rw b_is (was_back k) }, refl, refl)
-  where
-    was_back : (k : ℕ) → slice_index_or out k false ≡ (slice_index_or out k false && not (i == k))
-    was_back k = ⊎_elim
-        (λ (same : (i == k) ≡ true).
-        let here : i ≡ k = eqb-true i k same in
-        let back : slice_index_or out k false ≡ false = ap (λ n. slice_index_or out n false) (sym here) ∙ d_is in
-        rw (back) refl)
-        (λ (other : (i == k) ≡ false). rw other (sym (and_true (slice_index_or out k false))))
-        (cases_Bool (i == k))
+quiet_result id of i r out b d h7 h8 = grind (arith, nat_tests, kept_quiet, outs_are, back_out, eqb-true, and_true)
 
 pub quiet_at : (moment : ℕ) (id : CallId) (o : Occurrence) (out : List Bool) → Quiet id o (call_state out None) (step moment id o (call_state out None))
-quiet_at moment id (Result of i r) out = quiet_result id of i r out (is_call of id) (slice_index_or out i false) refl refl
-quiet_at moment id (Closing d) out =
-    cond_both (d == id.conn) (kept (call_state out None)) (kept (call_state out None)) (λ s. Quiet id (Closing d) (call_state out None) s)
-    (λ _. kept_quiet id (Closing d) (call_state out None) (λ k. refl)) (λ _. kept_quiet id (Closing d) (call_state out None) (λ k. refl))
-quiet_at moment id (Break d) out =
-    cond_both (d == id.conn) (kept (call_state out None)) (kept (call_state out None)) (λ s. Quiet id (Break d) (call_state out None) s)
-    (λ _. kept_quiet id (Break d) (call_state out None) (λ k. refl)) (λ _. kept_quiet id (Break d) (call_state out None) (λ k. refl))
-quiet_at moment id Opening out = kept_quiet id Opening (call_state out None) (λ k. refl)
-quiet_at moment id (Comes d x) out = kept_quiet id (Comes d x) (call_state out None) (λ k. refl)
-quiet_at moment id (HangUp d) out = kept_quiet id (HangUp d) (call_state out None) (λ k. refl)
-quiet_at moment id (Moment t) out = kept_quiet id (Moment t) (call_state out None) (λ k. refl)
-quiet_at moment id Drain out = kept_quiet id Drain (call_state out None) (λ k. refl)
+quiet_at moment id o out = grind (arith, nat_tests, quiet_result, kept_quiet)
 
 kept_nothing : (id : CallId) (o : Occurrence) (c : CallState) → ((k : ℕ) → is_result_of id k o ≡ false) → NothingOf id o c (kept c)
-kept_nothing id o c none = record {
-  stays = record { outs_are = λ k. sym (and_true (has_out c k)) ∙ ap (λ b. has_out c k && not b) (sym (none k)) };
-  live_is = refl;
-  no_reply = refl;
-  no_jobs = refl;
-}
+kept_nothing id o c none = grind arith
 
 -- ---- a call that can't be decided any more
 
 pub still_none : (moment : ℕ) (id : CallId) (o : Occurrence) (out : List Bool) → (step moment id o (call_state out None)).call.live ≡ None
-still_none moment id (Result of i r) out =
-    cond_both (is_call of id && slice_index_or out i false) (kept (call_state (slice_set out i false) None)) (kept (call_state out None)) (λ s. s.call.live ≡ None) (λ _. refl) (λ _. refl)
-still_none moment id (Closing d) out =
-    cond_both (d == id.conn) (kept (call_state out None)) (kept (call_state out None)) (λ s. s.call.live ≡ None) (λ _. refl) (λ _. refl)
-still_none moment id (Break d) out =
-    cond_both (d == id.conn) (kept (call_state out None)) (kept (call_state out None)) (λ s. s.call.live ≡ None) (λ _. refl) (λ _. refl)
-still_none moment id Opening out = refl
-still_none moment id (Comes d x) out = refl
-still_none moment id (HangUp d) out = refl
-still_none moment id (Moment t) out = refl
-still_none moment id Drain out = refl
+still_none moment id o out = grind (arith, nat_tests)
 
 -- ---- a call that can
 
 below_none : (n : ℕ) (p : ℕ → Bool) (k : ℕ) → nat_lt 0 (count_below n p) ≡ false → k < n → p k ≡ false
 below_none zero p k none lt = absurd (omega (arith, lt))
-below_none (suc n) p k none lt = by_top (p n) refl (below_none n p k)
-  where
-    by_top : (b : Bool) → p n ≡ b → (nat_lt 0 (count_below n p) ≡ false → k < n → p k ≡ false) → p k ≡ false
-    by_top true b_is below =
-        absurd (let le : count_below (suc n) p ≤ 0 = ltb-false 0 (count_below (suc n) p) none in
-        let some : count_below (suc n) p ≡ suc (count_below n p) = rw b_is refl in
-        omega (arith, le, some))
-    by_top false b_is below =
-        let rest : nat_lt 0 (count_below n p) ≡ false = rw b_is at none in
-        ⊎_elim (λ (l : k < n). below rest l)
-        (λ (ge : n ≤ k). let here : k ≡ n = omega (arith, ge, lt) in ap p here ∙ b_is)
-        (cases_lt k n)
+below_none (suc n) p k none lt = grind (arith, below_none n p k)
 
 arrived : (c k : ℕ) (a : ArrivedCall) (past : Past) → call (call_id c k) past ≡ Some a → k < arrivals c past
-arrived c k a past h =
-    ⊎_elim (λ (lt : k < arrivals c past). lt)
-    (λ (ge : arrivals c past ≤ k). absurd (let none : call (call_id c k) past ≡ None = (unborn (call_id c k) past ge).no_call in let bad = sym h ∙ none in cc))
-    (cases_lt k (arrivals c past))
-
-own_unshut : (d c : ℕ) (past : Past) → is_shut c past ≡ false → ((d == c) && not (is_shut c past)) ≡ false → (d == c) ≡ false
-own_unshut d c past unshut e = sym (and_true (d == c)) ∙ (rw unshut at e)
+arrived c k a past h = grind (arith, nat_tests, unborn)
 
 deciding_drain : (id : CallId) (a : ArrivedCall) (past : Past) → call id past ≡ Some a → is_shut id.conn past ≡ false → is_some (deciding id (mark_of past Drain) past) ≡ true
-deciding_drain id a past call_is unshut =
-    let own : own_event id (mark_of past Drain) past ≡ Some Drained =
-    own_before id (mark_of past Drain) past (no_entering id Drain past refl) unshut ∙ ap (λ o. option_map_or (λ c. event_by id c Drain false past) o None) call_is in
-    ap (λ o. is_some (option_and_then (λ x. if decides (answers id past) (branches id past) x then Some x else None) o)) own
+deciding_drain id a past call_is unshut = cc
 
 deciding_moment : (id : CallId) (t : ℕ) (l : Live) (out : List Bool) (past : Past) (e : CallEvent) → LiveStands id l out past → ((i : ℕ) → slice_index_or out i false ≡ is_out id i past)
     → due_by (moment_after (now past) t) l.asked.deadline (deadlines_in out l.deadlines) ≡ Some e → is_some (deciding id (mark_of past (Moment t)) past) ≡ true
-deciding_moment id t l out past e h out_is due =
-    let same : deadlines_out id l.asked.plan past ≡ deadlines_in out l.deadlines =
-    outs_are id l.asked out past h.call_is h.size_is out_is ∙ ap (deadlines_in out) (sym h.deadlines_are) in
-    let event : due_by (moment_after (now past) t) l.asked.deadline (deadlines_out id l.asked.plan past) ≡ Some e = ap (due_by (moment_after (now past) t) l.asked.deadline) same ∙ due in
-    let own : own_event id (mark_of past (Moment t)) past ≡ Some e =
-    own_before id (mark_of past (Moment t)) past (no_entering id (Moment t) past refl) h.unshut
-    ∙ ap (λ o. option_map_or (λ c. event_by id c (Moment t) false past) o None) h.call_is ∙ event in
-    let ends : decides (answers id past) (branches id past) e ≡ true =
-    moment_ends (moment_after (now past) t) l.asked.deadline (deadlines_in out l.deadlines) e (answers id past) (branches id past) due in
-    rw (own, ends) refl
+deciding_moment id t l out past e h out_is due = grind (arith, nat_tests, outs_are, own_before, no_entering, moment_ends)
 
 nothing_result : (c k : ℕ) (of : CallId) (i : ℕ) (r : Outcome) (l : Live) (out : List Bool) (past : Past) → LiveStands (call_id c k) l out past
     → concerns c (Result of i r) past ≡ false → is_call of (call_id c k) ≡ true → is_out (call_id c k) i past ≡ true → ⊥
@@ -153,28 +66,13 @@ nothing_result c k of i r l out past h not_so it is_out_i =
     let bad : false ≡ true = sym not_so ∙ ap (λ x. concerns c (Result x i r) past) same ∙ counted in
     cc
 
-not_back : (id of : CallId) (i : ℕ) (r : Outcome) (c : CallState) (b d : Bool) → is_call of id ≡ b → has_out c i ≡ d → (b && d) ≡ false
-    → (k : ℕ) → has_out c k ≡ (has_out c k && not (is_result_of id k (Result of i r)))
-not_back id of i r c false d b_is d_is e k = rw b_is (sym (and_true (has_out c k)))
-not_back id of i r c true true b_is d_is e k = absurd (cc)
-not_back id of i r c true false b_is d_is e k = rw b_is (⊎_elim
-    (λ (same : (i == k) ≡ true). let back : has_out c k ≡ false = ap (λ n. has_out c n) (sym (eqb-true i k same)) ∙ d_is in rw back refl)
-    (λ (other : (i == k) ≡ false). rw other (sym (and_true (has_out c k))))
-    (cases_Bool (i == k)))
-
 live_nothing : (c k : ℕ) (o : Occurrence) (out : List Bool) (l : Live) (past : Past) → concerns c o past ≡ false → CallStands (call_id c k) (call_state out (Some l)) past
     → NothingOf (call_id c k) o (call_state out (Some l)) (step (now past) (call_id c k) o (call_state out (Some l)))
 live_nothing c k Opening out l past not_so h = kept_nothing (call_id c k) Opening (call_state out (Some l)) (λ j. refl)
 live_nothing c k (Comes d x) out l past not_so h = kept_nothing (call_id c k) (Comes d x) (call_state out (Some l)) (λ j. refl)
-live_nothing c k (HangUp d) out l past not_so h =
-    let s : LiveStands (call_id c k) l out past = h.live_is in
-    rw (own_unshut d c past s.unshut not_so) (kept_nothing (call_id c k) (HangUp d) (call_state out (Some l)) (λ j. refl))
-live_nothing c k (Closing d) out l past not_so h =
-    let s : LiveStands (call_id c k) l out past = h.live_is in
-    rw (own_unshut d c past s.unshut not_so) (kept_nothing (call_id c k) (Closing d) (call_state out (Some l)) (λ j. refl))
-live_nothing c k (Break d) out l past not_so h =
-    let s : LiveStands (call_id c k) l out past = h.live_is in
-    rw (own_unshut d c past s.unshut not_so) (kept_nothing (call_id c k) (Break d) (call_state out (Some l)) (λ j. refl))
+live_nothing c k (HangUp d) out l past not_so h = grind arith
+live_nothing c k (Closing d) out l past not_so h = grind arith
+live_nothing c k (Break d) out l past not_so h = grind arith
 live_nothing c k (Moment t) out l past not_so h = by_event (due_by (moment_after (now past) t) l.asked.deadline (deadlines_in out l.deadlines)) refl
   where
     by_event : (x : Option CallEvent) → due_by (moment_after (now past) t) l.asked.deadline (deadlines_in out l.deadlines) ≡ x
@@ -201,24 +99,12 @@ live_nothing c k (Result of i r) out l past not_so h = by_it (is_call of (call_i
         (if is_call of (call_id c k) && slice_index_or out i false then result_on (now past) i r (slice_set out i false) (Some l) else kept (call_state out (Some l)))
     by_it true true b_is d_is =
         absurd (nothing_result c k of i r l out past h.live_is not_so b_is (sym (h.out_is i) ∙ d_is))
-    by_it false d b_is d_is = rw b_is (record {
-      stays = record { outs_are = λ j. rw b_is (sym (and_true (slice_index_or out j false))) };
-      live_is = refl;
-      no_reply = refl;
-      no_jobs = refl;
-    })
-    by_it true false b_is d_is = rw (b_is, d_is) (record {
-      stays = record { outs_are = not_back (call_id c k) of i r (call_state out (Some l)) true false b_is d_is refl };
-      live_is = refl;
-      no_reply = refl;
-      no_jobs = refl;
-    })
+    by_it false d b_is d_is = grind (arith, nat_tests)
+    by_it true false b_is d_is = grind (arith, nat_tests)
 
 pub nothing_of : (c k : ℕ) (o : Occurrence) (out : List Bool) (live : Option Live) (past : Past) → concerns c o past ≡ false → CallStands (call_id c k) (call_state out live) past
     → NothingOf (call_id c k) o (call_state out live) (step (now past) (call_id c k) o (call_state out live))
-nothing_of c k o out None past not_so h =
-    let q = quiet_at (now past) (call_id c k) o out in
-    record { stays = q.0; live_is = still_none (now past) (call_id c k) o out; no_reply = q.1; no_jobs = q.2 }
+nothing_of c k o out None past not_so h = grind (arith, nat_tests, quiet_at, still_none)
 nothing_of c k o out (Some l) past not_so h = live_nothing c k o out l past not_so h
 
 count_alike : (n : ℕ) (p q : ℕ → Bool) → ((k : ℕ) → p k ≡ q k) → count_below n p ≡ count_below n q
@@ -227,12 +113,7 @@ count_alike (suc n) p q same = ap (λ b. if b then suc (count_below n p) else co
 
 -- where nothing decided it before
 same_by : (c : Option ArrivedCall) (d e f : Option CallEvent) → option_or d e ≡ option_or d f → ((is_some c && is_none d) && is_some e) ≡ ((is_some c && is_none d) && is_some f)
-same_by c None e f is = ap (λ x. (is_some c && true) && is_some x) is
-same_by c (Some d) e f is = off (is_some c)
-  where
-    off : (b : Bool) → ((b && false) && is_some e) ≡ ((b && false) && is_some f)
-    off true = refl
-    off false = refl
+same_by c d e f h4 = grind (arith, nat_tests)
 
 module _ (c : ℕ) (os : List Occurrence) where
   abbrev p : Past
@@ -252,16 +133,10 @@ module _ (c : ℕ) (os : List Occurrence) where
         subst (λ us. Alike c (marked (o ∷ os)) (marked us)) is (own_alike c (o ∷ os))
 
     each_alike : (k : ℕ) → (is_undecided (call_id c k) p && is_some (deciding (call_id c k) (mark_of p o) p)) ≡ (is_undecided (call_id c k) q && is_some (deciding (call_id c k) (mark_of q o) q))
-    each_alike k =
-        same_by (call (call_id c k) p) (decided (call_id c k) p) (deciding (call_id c k) (mark_of p o) p) (deciding (call_id c k) (mark_of q o) q)
-        (then_alike.decided_is k ∙ ap (λ d. option_or d (deciding (call_id c k) (mark_of q o) q)) (sym (a.decided_is k)))
-        ∙ ap (λ x. (is_some x && is_none (decided (call_id c k) p)) && is_some (deciding (call_id c k) (mark_of q o) q)) (a.call_is k)
-        ∙ ap (λ d. (is_some (call (call_id c k) q) && is_none d) && is_some (deciding (call_id c k) (mark_of q o) q)) (a.decided_is k)
+    each_alike k = grind (arith, nat_tests, same_by, then_alike, a)
 
     decided_alike : decided_by c o p ≡ decided_by c o q
-    decided_alike =
-        ap (λ n. count_below n (λ k. is_undecided (call_id c k) p && is_some (deciding (call_id c k) (mark_of p o) p))) a.arrivals_are
-        ∙ count_alike (arrivals c q) _ _ each_alike
+    decided_alike = grind (arith, nat_tests, a, count_alike, each_alike)
 
   -- it concerns it by all that occurred as by what is its own
   pub concerns_own : (o : Occurrence) → is_visible c o ≡ true → concerns c o p ≡ concerns c o q
@@ -335,14 +210,6 @@ module _ (n : Now) (conns : ℕ → ConnectionValue) (taken : ℕ → List Reply
       one_newer (MayBreak opened event.Drain es) _ os Drain cs refl
       (breaks_each (MayBreak opened event.Drain es) os cs once (λ c ds on off. (not_before c ds off (by c on).0, concerned_amid n conns taken handed waiting os h Drain ds c (by c on).1.0 refl off (by c on).1.1)))
       (drain_stands n taken handed waiting os conns h cs once)
-
--- ---- an event that brings one occurrence
-
-module _ (P : ℕ → List Occurrence → Type 0) (n : Now) (conns : ℕ → ConnectionValue) (taken : ℕ → List ReplyEntry) (handed waiting : List JobValue) (os : List Occurrence)
-    (h : AllStand n conns taken handed waiting os) (o : Occurrence) (plain : is_break o ≡ false) where
-  -- none breaks at it
-  pub comes : ((c : ℕ) → MayCome o (conns c)) → Newer P (λ us. AllStand (now_after o n) (all_after n o conns) taken handed (waiting ++ all_started n o conns) us) (o ∷ []) os
-  comes may = one_newer P _ os o [] plain tt (all_step n conns taken handed waiting os o h may)
 
 -- ---- a moment, and the drain
 
@@ -438,11 +305,7 @@ module _ (h : History) (v : CoreValue) where
       (λ c os at. at ∙ ap (λ b. once b (Closing n)) ((c.each n).open_is ∙ there)) (λ d. tt) (λ c os all. tt)
     where
       shuts : (c : ℕ) → (n == c) ≡ true → (is_open_value v.opened c (v.conns c) ≡ true) × (((came (Closing n) [] v.streams v).conns c).closed ≡ true)
-      shuts c is =
-          let same : n ≡ c = eqb-true n c is in (
-            ap (λ m. is_open_value v.opened m (v.conns m)) (sym same) ∙ there,
-            ap (λ b. (if b then went v.now (Closing n) (v.conns c) else v.conns c).closed) is ∙ ap (λ b. b || (v.conns c).closed) (ap (λ m. n == m) (numbers c) ∙ is),
-          )
+      shuts c h1 = grind (arith, nat_tests)
 
   -- one that is not open does not
   pub unclosed_adds : (n : ℕ) → is_open_value v.opened n (v.conns n) ≡ false → Adds h.opened (event.Closing n) h v v
@@ -452,11 +315,7 @@ module _ (h : History) (v : CoreValue) where
 
 -- one that is not shut had not broken
 not_shut : (n : ℕ) (os : List Occurrence) → is_shut n (marked os) ≡ false → is_broken n (marked os) ≡ false
-not_shut n os unshut = by (is_broken n (marked os)) refl
-  where
-    by : (b : Bool) → is_broken n (marked os) ≡ b → is_broken n (marked os) ≡ false
-    by false is = is
-    by true is = absurd (let clash : true ≡ false = sym (broken_shut n (marked os) is) ∙ unshut in cc)
+not_shut n os unshut = grind (arith, nat_tests, broken_shut)
 
 module _ (h : History) (v : CoreValue) (n : ℕ) (whole : (v.conns n).broken ≡ false) where
   not_yet_broken : (v.conns n).closed ≡ false → (os : List Occurrence) → StandsNow h v os → is_broken n (marked os) ≡ false
@@ -474,11 +333,4 @@ module _ (h : History) (v : CoreValue) (n : ℕ) (whole : (v.conns n).broken ≡
   -- one that counts: its branch is out, and its call can be decided
   pub counted_may : (request branch : ℕ) (outcome : Outcome) (l : Live) → ((v.conns n).calls request).live ≡ Some l → has_out ((v.conns n).calls request) branch ≡ true
       → MayAll (event.BranchResult n request branch outcome) h v (n ∷ [])
-  counted_may request branch outcome l l_is out c os all =
-      let a = own_alike n os in
-      let s : LiveStands (call_id (v.conns n).number request) l ((v.conns n).calls request).out (marked (own n os)) =
-      subst (λ x. MayLive (call_id (v.conns n).number request) x ((v.conns n).calls request).out (marked (own n os))) l_is ((all.each n).calls request).live_is in
-      let back : is_out (call_id n request) branch (marked os) ≡ true = sym (outs_stand v.now v.conns h.taken h.handed v.waiting os all n request branch) ∙ out in
-      let undecided : decided (call_id n request) (marked os) ≡ None = a.decided_is request ∙ ap (λ d. decided (call_id d request) (marked (own n os))) (sym (all.numbers n)) ∙ s.undecided in
-      let unshut : is_shut n (marked os) ≡ false = a.shut_is ∙ ap (λ d. is_shut d (marked (own n os))) (sym (all.numbers n)) ∙ s.unshut in
-      ((not_shut n os unshut, rw (eq-eqb n n refl, back, undecided, unshut) refl), tt)
+  counted_may request branch outcome l l_is out c os all = grind (arith, nat_tests, a, own_alike, outs_stand, not_shut, eq-eqb)

@@ -1,18 +1,7 @@
 -- A call and a connection that go on, at each occurrence.
-use Rattle.std.proofs.Common.{◌≡◌, ℕ, ◌+◌, false, List, ◌∷◌, ◌++◌, map, length, Option, None, Some, sym, ap, ◌∙◌, subst, arith}
-use Rattle.std.specs.Prelude.{◌||◌, nat_le}
-use Rattle.std.specs.Option.{option_or}
-use Rattle.std.proofs.lemmas.List.{length-append, length-map}
-use Rattle.gateway_model.specs.declared.id.CallId.{CallId}
-use Rattle.gateway_model.specs.Occurrence.{Occurrence, Comes, Coming}
-use Rattle.gateway_model.specs.Past.{Past, call_id, arrivals, coming_now, now, is_drained, is_shut, crowds, mark_of, marked, most_calls, shuts, undecided_calls}
-use Rattle.gateway_model.specs.declared.entry.ReplyEntry.{ReplyEntry}
-use Rattle.gateway_theory.specs.Step.{kept, step}
-use Rattle.gateway_theory.specs.Values.{CallState}
-use Rattle.gateway_theory.specs.LiveStands.{CallStands, Stepped}
-use Rattle.gateway_theory.specs.Begins.{arrive}
-use Rattle.gateway_theory.specs.Machine.{ConnState, MachineState, ConnAfter, arriving, is_coming, is_full, next_id, slot_at, step_of}
-use Rattle.gateway_theory.specs.Standing.{ConnStands}
+use Rattle.std.specs.Prelude.{◌≡◌, ◌+◌, ◌∷◌, ◌++◌, ◌||◌}
+use Rattle.gateway_theory.specs.lemmas.Names.{ℕ, false, List, map, length, Option, None, Some, sym, ap, ◌∙◌, subst, arith, nat_le, option_or, length-append, length-map, CallId, Occurrence, Comes, Coming, Past, call_id, arrivals, coming_now, now, is_drained, is_shut, crowds, mark_of, marked, most_calls, shuts, undecided_calls, ReplyEntry, kept, step, CallState, CallStands, Stepped, arrive, ConnState, MachineState, ConnAfter, is_coming, is_full, next_id, slot_at, step_of, ConnStands}
+use Rattle.gateway_theory.specs.Machine.{arriving}
 use Rattle.gateway_theory.specs.lemmas.BeginsLemmas.{arrives}
 use Rattle.gateway_theory.specs.lemmas.MachineLemmas.{arrivals_same, crowd_is, each_slot, kept_by_entry, no_entering, slots_after}
 use Rattle.gateway_theory.specs.lemmas.SlotLemmas.{undecided_count}

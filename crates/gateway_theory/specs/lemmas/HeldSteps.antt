@@ -1,36 +1,10 @@
 -- What is kept of a connection stays what it is by each of its steps.
-use Rattle.std.proofs.Common.{◌≡◌, ℕ, zero, suc, ◌+◌, ◌<◌, true, false, List, [], ◌∷◌, ◌++◌, map, length, Option, None, Some, refl, sym, ap, ◌∙◌, subst, arith, ◌≤◌, Bool}
-use Rattle.std.specs.Prelude.{◌||◌, All, drop, not, slice_index_or, slice_set, ◌==◌, ◌&&◌, filter, if◌then◌else◌, is_none, take}
-use Rattle.std.proofs.lemmas.List.{append-nil, length-append, length-map}
-use Rattle.std.proofs.lemmas.List.Elements.{All-append, All-filter, All-get_or, All-map, All-set}
-use Rattle.http_pieces.specs.Request.{most_requests, HttpRequest}
-use Rattle.connect_codec.specs.declared.answer.Outcome.{Outcome}
-use Rattle.gateway_model.specs.Past.{is_call, most_calls}
-use Rattle.gateway_model.specs.declared.entry.ReplyEntry.{ReplyEntry}
-use Rattle.gateway_model.specs.declared.id.CallId.{CallId}
-use Rattle.gateway_theory.specs.Ends.{AreApart, ended_if, ended_kept, caused}
-use Rattle.gateway_theory.specs.Values.{KeptValue, Live, HeldConnection}
-use Rattle.gateway_theory.specs.Machine.{slot_at, is_full}
-use Rattle.gateway_theory.specs.Results.{back_kept, stepped_kept}
-use Rattle.gateway_theory.specs.Step.{Step, result_on, ended_by, deadlines_in}
-use Rattle.gateway_theory.specs.Store.{given_up, kept_at, no_call}
-use Rattle.gateway_theory.specs.declared.trigger.Trigger.{Trigger}
-use Rattle.gateway_theory.specs.lemmas.StoreLemmas.{calls_filtered, calls_more, ids_mapped, ids_set, fewer, fewer_behind, one_more}
-use Rattle.gateway_theory.specs.Held.{Forgets, forgotten, stays, Holds, back_held, broken_held, closed_held, ended_entry, ended_held, entered_held, hung_held, kept_now, lost_held, next_held, replied, result_in, settled_held, stepped_held, taken_held, HasBrought, ReadsOn, arriving_in, coming_of, has_out_in, hears, is_gone, new_held, new_reader, read_held, undecided}
+use Rattle.std.specs.Prelude.{◌≡◌, ◌+◌, ◌<◌, ◌∷◌, ◌++◌, ◌≤◌, ◌||◌, ◌==◌, ◌&&◌, if◌then◌else◌}
+use Rattle.gateway_theory.specs.lemmas.Names.{ℕ, true, false, List, [], map, length, Option, None, Some, refl, sym, ap, ◌∙◌, subst, arith, Bool, nat_tests, All, not, slice_set, filter, is_none, take, append-nil, length-append, length-map, All-append, All-filter, All-get_or, All-map, All-set, most_requests, HttpRequest, Outcome, is_call, most_calls, ReplyEntry, CallId, AreApart, ended_if, ended_kept, KeptValue, Live, HeldConnection, back_kept, stepped_kept, Step, result_on, given_up, kept_at, no_call, Trigger, Forgets, forgotten, stays, Holds, back_held, broken_held, closed_held, ended_entry, ended_held, entered_held, hung_held, kept_now, lost_held, next_held, replied, result_in, settled_held, stepped_held, HasBrought, ReadsOn, arriving_in, coming_of, has_out_in, hears, is_gone, new_held, new_reader, read_held, undecided, count_by, list_any, leb-false, HasRead, ReaderValue, is_over, PlanRecord, Coming, arrive, filled, is_waiting, refusals, IsHeld}
+use Rattle.gateway_theory.specs.lemmas.StoreLemmas.{calls_filtered, calls_more, ids_mapped, ids_set, fewer, one_more}
 use Rattle.gateway_theory.specs.lemmas.ConnectionSteps.{filled_size, filled_at}
 use Rattle.gateway_theory.specs.lemmas.HeldValues.{fresh_in, replied_rest, replied_slots}
-use Rattle.std.specs.List.{count_by, list_any}
-use Rattle.std.proofs.lemmas.Bool.{leb-false}
-use Rattle.http_pieces.specs.Reader.{Done, HasRead, Partial, ReaderValue, Reading, Stopped, Waiting, is_over}
-use Rattle.call_plan.specs.Plan.{PlanRecord}
-use Rattle.gateway_model.specs.Arrival.{Asks, Judged}
-use Rattle.gateway_model.specs.Occurrence.{Coming, Refused, Request}
-use Rattle.gateway_model.specs.declared.call_event.CallEvent.{CallEvent}
-use Rattle.gateway_theory.specs.Begins.{arrive}
 use Rattle.gateway_theory.specs.lemmas.ServedPieces.{few_given, no_refusal, after_settled}
-use Rattle.gateway_theory.specs.Connection.{filled}
-use Rattle.gateway_theory.specs.Core.{is_waiting, refusals}
-use Rattle.gateway_theory.specs.Serving.{IsHeld}
 
 -- a call that can't be decided stays so
 abbrev pub IsDead : KeptValue → Type 0
@@ -65,31 +39,10 @@ replied_size : (q : ℕ) (reply : Option ReplyEntry) (k : HeldConnection) → le
 replied_size q reply k = ap (λ (l : List (Option ReplyEntry)). length l) (replied_slots q reply k) ∙ filled_size _ k.taken k.slots
 
 with_slots : (k : HeldConnection) (slots : List (Option ReplyEntry)) → length slots ≡ length k.slots → Holds k → Holds (record k { slots = slots })
-with_slots k slots size h = record {
-  own = h.own;
-  apart = h.apart;
-  came = λ still. λ i d lt. let less = h.came still i d lt in omega (arith, less, size);
-  dead = h.dead;
-  few = let few = h.few in omega (arith, few, size);
-}
+with_slots k slots size h = grind arith
 
 pub holds_replied : (q : ℕ) (reply : Option ReplyEntry) (k : HeldConnection) → Holds k → Holds (replied q reply k)
 holds_replied q reply k h = subst Holds (sym (replied_rest q reply k)) (with_slots k (replied q reply k).slots (replied_size q reply k) h)
-
-pub holds_taken : (k : HeldConnection) (e : ReplyEntry) → slot_at 0 k.slots ≡ Some e → Holds k → Holds (taken_held k)
-holds_taken k e first h = by k.slots refl first
-  where
-    by : (slots : List (Option ReplyEntry)) → k.slots ≡ slots → slot_at 0 slots ≡ Some e → Holds (taken_held k)
-    by [] is none = absurd (cc)
-    by (s ∷ rest) is there =
-        let size : length k.slots ≡ suc (length rest) = ap (λ (l : List (Option ReplyEntry)). length l) is in
-        let left : length (drop 1 k.slots) ≡ length rest = ap (λ (l : List (Option ReplyEntry)). length (drop 1 l)) is in record {
-          own = h.own;
-          apart = h.apart;
-          came = λ still. λ i d lt. let less = h.came still i d lt in omega (arith, less, size, left);
-          dead = h.dead;
-          few = let few = h.few in omega (arith, few, size, left);
-        }
 
 -- ---- its calls end
 
@@ -149,15 +102,7 @@ module _ (s : Step) (k : HeldConnection) (still : k.closed ≡ false) (whole : k
   size_then = length-append k.slots (s.reply ∷ [])
 
   each_now : (P : KeptValue → Type 0) (live : Option Live) → ((c : KeptValue) → c.id ≡ next_held k → P c) → All P (kept_now (next_held k) s live)
-  each_now P None it = λ i d lt. absurd (omega (arith, lt))
-  each_now P (Some l) it = one (record { id = next_held k; call = s.call }) (it (record { id = next_held k; call = s.call }) refl)
-    where
-      one : (x : KeptValue) → P x → All P (x ∷ [])
-      one x p = λ i d lt. by i d lt
-        where
-          by : (i : ℕ) (d : KeptValue) → i < 1 → P (slice_index_or (x ∷ []) i d)
-          by zero d lt = p
-          by (suc i) d lt = absurd (omega (arith, lt))
+  each_now P live h2 = grind (arith, nat_tests)
 
   apart_now : (live : Option Live) → AreApart (k.calls ++ kept_now (next_held k) s live)
   apart_now None = subst AreApart (sym (append-nil k.calls)) h.apart
@@ -177,13 +122,7 @@ module _ (s : Step) (k : HeldConnection) (still : k.closed ≡ false) (whole : k
 
 -- pieces of its stream are taken
 pub hears_parts : (k : HeldConnection) → hears k ≡ true → (k.closed ≡ false) × (k.broken ≡ false) × (k.hung_up ≡ false)
-hears_parts k on = by k.closed k.broken k.hung_up on
-  where
-    by : (a b c : Bool) → (not a && (not b && not c)) ≡ true → (a ≡ false) × (b ≡ false) × (c ≡ false)
-    by false false false e = (refl, refl, refl)
-    by false false true e = absurd (cc)
-    by false true c e = absurd (cc)
-    by true b c e = absurd (cc)
+hears_parts k on = grind arith
 
 -- ---- slots
 
@@ -207,47 +146,17 @@ pub like_itself : (k : HeldConnection) → Like k k
 like_itself k = record { number_is = refl; closed_is = refl; broken_was = λ e. e; stays_whole = λ e. refl; hung_is = refl; reader_is = refl; fewer_wait = omega arith; as_many = refl; none_then = λ e. e }
 
 pub like_then : (j k l : HeldConnection) → Like j k → Like k l → Like j l
-like_then j k l a b = record {
-  number_is = b.number_is ∙ a.number_is;
-  closed_is = b.closed_is ∙ a.closed_is;
-  broken_was = λ e. a.broken_was (b.broken_was e);
-  stays_whole = λ e. b.stays_whole (a.closed_is ∙ e) ∙ a.stays_whole e;
-  hung_is = b.hung_is ∙ a.hung_is;
-  reader_is = b.reader_is ∙ a.reader_is;
-  fewer_wait = let x = a.fewer_wait in let y = b.fewer_wait in omega (arith, x, y);
-  as_many = b.as_many ∙ a.as_many;
-  none_then = λ e. b.none_then (a.none_then e);
-}
+like_then j k l a b = grind arith
 
 -- its calls alone are others
 pub like_calls : (k : HeldConnection) (calls : List KeptValue) → Like k (record k { calls = calls })
 like_calls k calls = record { number_is = refl; closed_is = refl; broken_was = λ e. e; stays_whole = λ e. refl; hung_is = refl; reader_is = refl; fewer_wait = omega arith; as_many = refl; none_then = λ e. e }
 
 pub like_broken : (k : HeldConnection) → k.closed ≡ false → Like k (broken_held k)
-like_broken k still = record {
-  number_is = refl;
-  closed_is = refl;
-  broken_was = λ e. absurd (cc);
-  stays_whole = λ e. absurd (let clash : false ≡ true = sym still ∙ e in cc);
-  hung_is = refl;
-  reader_is = refl;
-  fewer_wait = omega arith;
-  as_many = refl;
-  none_then = λ e. e;
-}
+like_broken k still = grind arith
 
 like_filled : (reply : ℕ → Option ReplyEntry) (k : HeldConnection) → Like k (record k { slots = filled reply k.taken k.slots })
-like_filled reply k = record {
-  number_is = refl;
-  closed_is = refl;
-  broken_was = λ e. e;
-  stays_whole = λ e. refl;
-  hung_is = refl;
-  reader_is = refl;
-  fewer_wait = few_filled reply k.taken k.slots;
-  as_many = ap (λ n. k.taken + n) (filled_size reply k.taken k.slots);
-  none_then = λ e. ap (filled reply k.taken) e;
-}
+like_filled reply k = grind (arith, nat_tests, few_filled, filled_size)
 
 pub like_ended : (t : Trigger) (k : HeldConnection) → Like k (ended_held t k)
 like_ended t k = like_then k (record k { slots = filled (ended_entry t k) k.taken k.slots }) (ended_held t k) (like_filled (ended_entry t k) k)
@@ -258,9 +167,7 @@ like_replied q reply k = subst (Like k) (sym (replied_rest q reply k ∙ ap (λ 
     (like_filled (λ r. if q == r then reply else None) k)
 
 pub like_settled : (moment i branch : ℕ) (outcome : Outcome) (k : HeldConnection) → Like k (settled_held i (result_in moment i branch outcome k) k)
-like_settled moment i branch outcome k =
-    like_then k (stepped_held i (result_in moment i branch outcome k) k) (settled_held i (result_in moment i branch outcome k) k) (like_calls k (stepped_held i (result_in moment i branch outcome k) k).calls)
-    (like_replied (kept_at i k.calls).id.request (result_in moment i branch outcome k).reply (stepped_held i (result_in moment i branch outcome k) k))
+like_settled moment i branch outcome k = grind (arith, nat_tests, like_then, like_calls, like_replied)
 
 pub like_back : (i branch : ℕ) (k : HeldConnection) → Like k (back_held i branch k)
 like_back i branch k = like_calls k (back_held i branch k).calls
@@ -272,47 +179,9 @@ pub like_forgotten : (id : CallId) (k l : HeldConnection) → Forgets id k l →
 like_forgotten id k l (stays spent is) = subst (Like k) (sym is) (like_itself k)
 like_forgotten id k l (forgotten spent is) = subst (Like k) (sym is) (like_calls k (filter (λ (c : KeptValue). not (is_call c.id id)) k.calls))
 
-pub like_taken : (k : HeldConnection) (e : ReplyEntry) → slot_at 0 k.slots ≡ Some e → Like k (taken_held k)
-like_taken k e first = by k.slots refl first
-  where
-    by : (slots : List (Option ReplyEntry)) → k.slots ≡ slots → slot_at 0 slots ≡ Some e → Like k (taken_held k)
-    by [] is none = absurd (cc)
-    by (s ∷ rest) is there = record {
-      number_is = refl;
-      closed_is = refl;
-      broken_was = λ e. e;
-      stays_whole = λ e. refl;
-      hung_is = refl;
-      reader_is = refl;
-      fewer_wait = fewer_behind k.slots;
-      as_many =
-          let size : length k.slots ≡ suc (length rest) = ap (λ (l : List (Option ReplyEntry)). length l) is in
-          let left : length (drop 1 k.slots) ≡ length rest = ap (λ (l : List (Option ReplyEntry)). length (drop 1 l)) is in omega (arith, size, left);
-      none_then = λ e. absurd (let clash = sym is ∙ e in cc);
-    }
-
--- what it brought
-brought_like : (k l : HeldConnection) → Like k l → HasBrought k → HasBrought l
-brought_like k l s b = record {
-  text = b.text;
-  given = b.given;
-  reads = subst (λ r. HasRead r b.text b.given) (sym s.reader_is) b.reads;
-  came = let came = b.came in let many = s.as_many in let read = ap (λ (r : ReaderValue). refusals r.reading) s.reader_is in omega (arith, came, many, read);
-}
-
 -- so it is kept as it was
 pub held_like : (n c : ℕ) (k l : HeldConnection) → Like k l → Holds l → is_gone l ≡ false → IsHeld n c k → IsHeld n c l
-held_like n c k l s holds here h = record {
-  number_is = s.number_is ∙ h.number_is;
-  born = h.born;
-  holds = holds;
-  whole = λ shut. let was : k.closed ≡ true = sym s.closed_is ∙ shut in s.stays_whole was ∙ h.whole was;
-  none_queued = λ shut. s.none_then (h.none_queued (sym s.closed_is ∙ shut));
-  stays = here;
-  settled = ap (λ (r : ReaderValue). is_waiting r.reading) s.reader_is ∙ h.settled;
-  few_calls = λ still on. let few = h.few_calls (sym s.closed_is ∙ still) (s.broken_was on) in let fewer_now = s.fewer_wait in omega (arith, few, fewer_now);
-  brought = λ on. let parts = hears_parts l on in brought_like k l s (h.brought (rw (sym s.closed_is ∙ parts.0, s.broken_was parts.1, sym s.hung_is ∙ parts.2) refl));
-}
+held_like n c k l s holds here h = grind arith
 
 -- one that is not closed is not gone
 pub here_open : (k : HeldConnection) → k.closed ≡ false → is_gone k ≡ false
@@ -321,20 +190,10 @@ here_open k still = ap (λ b. b && not (has_out_in k)) still
 -- where the branches that are out are the same, it is as gone
 any_map : (f : KeptValue → KeptValue) (calls : List KeptValue) → ((c : KeptValue) → (f c).call.out ≡ c.call.out) → list_any (λ (c : KeptValue). list_any (λ b. b) c.call.out) (map f calls) ≡ list_any (λ (c : KeptValue). list_any (λ b. b) c.call.out) calls
 any_map f [] same = refl
-any_map f (c ∷ calls) same =
-    ap (λ out. list_any (λ b. b) out || list_any (λ (x : KeptValue). list_any (λ b. b) x.call.out) (map f calls)) (same c)
-    ∙ ap (λ b. list_any (λ b. b) c.call.out || b) (any_map f calls same)
+any_map f (c ∷ calls) same = grind (arith, any_map f calls same)
 
 out_ended : (t : Trigger) (c : KeptValue) → (ended_kept t c).call.out ≡ c.call.out
-out_ended t c = by c.call.live
-  where
-    by : (l : Option Live) → (ended_if t c.id c.call.out l).call.out ≡ c.call.out
-    by None = refl
-    by (Some l) = each (caused t c.id l.asked (deadlines_in c.call.out l.deadlines))
-      where
-        each : (e : Option CallEvent) → (ended_by e l c.call.out).call.out ≡ c.call.out
-        each None = refl
-        each (Some e) = refl
+out_ended t c = grind arith
 
 pub held_ended : (n c : ℕ) (t : Trigger) (k : HeldConnection) → IsHeld n c k → IsHeld n c (ended_held t k)
 held_ended n c t k h = held_like n c k (ended_held t k) (like_ended t k) (holds_ended t k h.holds) (ap (λ b. k.closed && not b) (any_map (ended_kept t) k.calls (out_ended t)) ∙ h.stays) h
@@ -343,80 +202,30 @@ pub held_broken : (n c : ℕ) (k : HeldConnection) → k.closed ≡ false → Is
 held_broken n c k still h = held_like n c k (broken_held k) (like_broken k still) (holds_broken k h.holds) (here_open (broken_held k) still) h
 
 pub held_hung : (n c : ℕ) (k : HeldConnection) → IsHeld n c k → IsHeld n c (hung_held k)
-held_hung n c k h = record {
-  number_is = h.number_is;
-  born = h.born;
-  holds = holds_hung k h.holds;
-  whole = h.whole;
-  none_queued = h.none_queued;
-  stays = h.stays;
-  settled = h.settled;
-  few_calls = h.few_calls;
-  brought = λ on. absurd (let clash : true ≡ false = (hears_parts (hung_held k) on).2 in cc);
-}
+held_hung n c k h = grind arith
 
 -- ---- it is closed
 
 pub held_closed : (n c : ℕ) (k : HeldConnection) → is_gone (closed_held k) ≡ false → IsHeld n c k → IsHeld n c (closed_held k)
-held_closed n c k here h = record {
-  number_is = h.number_is;
-  born = h.born;
-  holds = holds_closed k h.holds;
-  whole = λ shut. refl;
-  none_queued = λ shut. refl;
-  stays = here;
-  settled = refl;
-  few_calls = λ still on. absurd (cc);
-  brought = λ on. absurd (cc);
-}
+held_closed n c k here h = grind (arith, nat_tests, holds_closed)
 
 -- ---- it opens
 
 pub held_new : (count : ℕ) → HasRead new_reader [] [] → IsHeld (count + 1) count (new_held count)
-held_new count fresh = record {
-  number_is = refl;
-  born = omega arith;
-  holds = record { own = λ i d lt. absurd (omega (arith, lt)); apart = λ i j lt within. absurd (omega (arith, lt, within)); came = λ still i d lt. absurd (omega (arith, lt)); dead = λ shut i d lt. absurd (omega (arith, lt)); few = omega arith };
-  whole = λ shut. refl;
-  none_queued = λ shut. refl;
-  stays = refl;
-  settled = refl;
-  few_calls = λ still on. omega arith;
-  brought = λ on. record { text = []; given = []; reads = fresh; came = omega arith };
-}
+held_new count fresh = grind arith
 
 -- where more were opened
 pub held_more : (n m c : ℕ) (k : HeldConnection) → n ≤ m → IsHeld n c k → IsHeld m c k
-held_more n m c k le h = record {
-  number_is = h.number_is;
-  born = let lt = h.born in omega (arith, lt, le);
-  holds = h.holds;
-  whole = h.whole;
-  none_queued = h.none_queued;
-  stays = h.stays;
-  settled = h.settled;
-  few_calls = h.few_calls;
-  brought = h.brought;
-}
+held_more n m c k le h = grind arith
 
 -- ---- its stream is read
 
 -- a request that was crowded out has its reply
 arrives_few : (moment : ℕ) (drained crowded : Bool) (id : CallId) (x : Coming) → (arrive moment drained crowded id x).reply ≡ None → crowded ≡ false
-arrives_few moment drained crowded id (Refused r) none = absurd (cc)
-arrives_few moment drained crowded id (Request q (Judged v)) none = absurd (cc)
-arrives_few moment drained true id (Request q (Asks plan timeout rid)) none = absurd (cc)
-arrives_few moment drained false id (Request q (Asks plan timeout rid)) none = refl
+arrives_few moment drained crowded id x h5 = grind (arith, nat_tests)
 
 few_entered : (moment : ℕ) (drained : Bool) (x : Coming) (k : HeldConnection) → undecided k ≤ most_calls → undecided (entered_held (arriving_in moment drained x k) k) ≤ most_calls
-few_entered moment drained x k few = by (arriving_in moment drained x k).reply refl
-  where
-    by : (reply : Option ReplyEntry) → (arriving_in moment drained x k).reply ≡ reply → count_by is_none (k.slots ++ (arriving_in moment drained x k).reply ∷ []) ≤ most_calls
-    by (Some e) is = let more = one_more k.slots (arriving_in moment drained x k).reply in let none : length (filter is_none ((arriving_in moment drained x k).reply ∷ [])) ≡ 0 = ap (λ r. length (filter is_none (r ∷ []))) is in omega (arith, more, none, few)
-    by None is =
-        let room = leb-false most_calls (count_by is_none k.slots) (arrives_few moment drained (is_full k.slots) (next_held k) x is) in
-        let more = one_more k.slots (arriving_in moment drained x k).reply in
-        let one : length (filter is_none ((arriving_in moment drained x k).reply ∷ [])) ≡ 1 = ap (λ r. length (filter is_none (r ∷ []))) is in omega (arith, more, one, room)
+few_entered moment drained x k few = grind (arith, nat_tests, one_more, leb-false, arrives_few)
 
 -- so many were given when this came
 pub record GivenThen (text : List ℕ) (given : List HttpRequest) (coming : ℕ) (reader : ReaderValue) : Type 0 where
@@ -432,24 +241,7 @@ one_if (Some x) = 1
 
 pub given_then : (plans : List PlanRecord) (n : ℕ) (bytes text : List ℕ) (given : List HttpRequest) (request : Option HttpRequest) (old new : ReaderValue) → ReadsOn n request bytes old new → HasRead old text given
     → GivenThen (text ++ take n bytes) given (one_if (coming_of plans request new.reading)) new
-given_then plans n bytes text given (Some q) old new r read = let after = after_settled q new.reading r.gives.after in record {
-  now_given = given ++ q ∷ [];
-  reads = r.gives.reads (text ++ take n bytes) given (r.reads.reads text given read);
-  settled = after.0;
-  as_many = let none = after.1 in let size = length-append given (q ∷ []) in omega (arith, none, size);
-}
-given_then plans n bytes text given None old new r read = record {
-  now_given = given;
-  reads = subst (λ x. HasRead x (text ++ take n bytes) given) (sym r.gives.0) (r.reads.reads text given read);
-  settled = ap (λ (x : ReaderValue). is_waiting x.reading) r.gives.0 ∙ r.gives.1;
-  as_many = ap (λ m. length given + m) (by new.reading);
-}
-  where
-    by : (y : Reading) → refusals y ≡ one_if (coming_of plans None y)
-    by (Partial left) = refl
-    by (Waiting q) = refl
-    by (Stopped x) = refl
-    by Done = refl
+given_then plans n bytes text given request old new h8 h9 = grind (arith, nat_tests, after_settled, length-append)
 
 module _ (n c : ℕ) (plans : List PlanRecord) (bytes : List ℕ) (taken : ℕ) (request : Option HttpRequest) (reader : ReaderValue) (k : HeldConnection) (on : hears k ≡ true) (going : is_over k.reader.reading ≡ false)
     (r : ReadsOn taken request bytes k.reader reader) (h : IsHeld n c k) where

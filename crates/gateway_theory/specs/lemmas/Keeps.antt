@@ -1,41 +1,14 @@
 -- What each call of the gateway keeps.
-use Rattle.std.proofs.Common.{◌≡◌, ℕ, suc, ◌+◌, ◌<◌, ◌≤◌, Bool, true, false, List, [], ◌∷◌, ◌++◌, length, Option, None, Some, Result, refl, sym, ap, ◌∙◌, subst, arith, inl, inr}
-use Rattle.std.specs.Prelude.{◌==◌, ◌&&◌, ◌||◌, ◌⊎◌, ⊤, All, filter, if◌then◌else◌, is_some, nat_lt, not}
-use Rattle.std.specs.List.{range_with_len}
-use Rattle.std.specs.Option.{option_map_or}
-use Rattle.std.proofs.lemmas.Bool.{eq-eqb, eqb-true, le-ltb, lt-ltb}
-use Rattle.std.proofs.lemmas.List.{append-nil, length-append, length-map}
-use Rattle.std.proofs.lemmas.List.Elements.{All-get_or, All-map}
-use Rattle.call_plan.specs.Plan.{PlanRecord}
-use Rattle.connect_codec.specs.declared.answer.Outcome.{Outcome}
-use Rattle.gateway_model.specs.Arrival.{Asks, Judged}
-use Rattle.gateway_model.specs.Job.{JobValue, job_of}
-use Rattle.gateway_model.specs.Known.{is_of}
-use Rattle.gateway_model.specs.Occurrence.{Coming, Refused, Request}
-use Rattle.gateway_model.specs.Past.{ArrivedCall, asked_of}
-use Rattle.gateway_model.specs.declared.call_event.CallEvent.{CallEvent}
-use Rattle.gateway_model.specs.declared.entry.ReplyEntry.{ReplyEntry}
-use Rattle.gateway_model.specs.declared.id.CallId.{CallId}
+use Rattle.std.specs.Prelude.{◌≡◌, ◌+◌, ◌<◌, ◌≤◌, ◌∷◌, ◌++◌, ◌==◌, ◌&&◌, ◌||◌, ◌⊎◌, if◌then◌else◌}
+use Rattle.gateway_theory.specs.lemmas.Names.{ℕ, suc, Bool, true, false, List, [], length, Option, None, Some, refl, sym, ap, ◌∙◌, subst, arith, inl, inr, nat_tests, ⊤, All, filter, nat_lt, not, range_with_len, eqb-true, lt-ltb, append-nil, length-append, length-map, All-map, PlanRecord, Outcome, JobValue, job_of, is_of, Coming, ArrivedCall, CallEvent, CallId, arrive, begins, first_ones, is_full, GatewayValue, conn_of, HeldConnection, moment_after, StepFault, Took, Trigger, Drained, HungUp, Reached, calls_kept, is_broken_conn, CallsEnd, HangsUp, Holds, TakesBytes, TakesResult, TakesStarved, arriving_in, back_held, broke, broken_held, dropped, ended, ended_held, entered_held, hears, hung, hung_held, most_begun, late, left_of, lost, lost_held, new_held, next_held, not_fed, read, read_held, result_in, settled, settled_held, unknown, unnoticed, unread, CountsCalls, IsServing, Keeps, KeepsBut, is_silent, Broadcast, Closes, Drains, Feeds, HangsUpAt, MayEnd, Moves, Opens, Reaches, Results, Starves, Tallies, absent, kept_in, there}
+use Rattle.std.proofs.Common.{Result}
 use Rattle.gateway_model.specs.declared.seen.Seen.{Seen}
-use Rattle.gateway_theory.specs.Begins.{arrive, begins, ends_first, first_ones}
-use Rattle.gateway_theory.specs.Machine.{is_full}
-use Rattle.gateway_theory.specs.Values.{KeptValue, Live, GatewayValue, conn_of, HeldConnection}
-use Rattle.gateway_theory.specs.Step.{Step, moment_after}
-use Rattle.gateway_theory.specs.Store.{given_up, kept_at, no_call}
 use Rattle.gateway_theory.specs.Tally.{tally_of}
-use Rattle.gateway_theory.specs.declared.fault.StepFault.{StepFault}
-use Rattle.gateway_theory.specs.declared.fault.Took.{Took}
-use Rattle.gateway_theory.specs.declared.trigger.Trigger.{Trigger}
-use Rattle.gateway_theory.specs.declared.trigger.Trigger.TheVariants.{Drained, HungUp, Reached}
 use Rattle.gateway_theory.specs.lemmas.Cases.{sym_eqb}
-use Rattle.gateway_theory.specs.Gateway.{calls_kept, if_open, is_broken_conn}
-use Rattle.gateway_theory.specs.Held.{CallsEnd, HangsUp, Holds, TakesBytes, TakesResult, TakesStarved, arriving_in, back_held, begun_by, broke, broken_held, came, closed_held, dropped, ended, ended_held, entered_held, hears, hung, hung_held, is_gone, kept_now, most_begun, late, left_of, lost, lost_held, new_held, next_held, not_fed, read, read_held, result_in, settled, settled_held, unknown, unnoticed, unread}
-use Rattle.gateway_theory.specs.Serving.{CountsCalls, IsServing, Keeps, KeepsBut, is_silent}
-use Rattle.gateway_theory.specs.Steps.{Broadcast, Closes, Drains, Feeds, HangsUpAt, MayEnd, Moves, Opens, Reaches, Results, Starves, Tallies, absent, closes, kept_in, shut, there}
+use Rattle.gateway_theory.specs.Held.{came}
 use Rattle.gateway_theory.specs.lemmas.CallsAdd.{unborn_absent, unborn_other}
-use Rattle.gateway_theory.specs.lemmas.Turns.{Grown, grown_back, grown_broken, grown_ended, grown_entered, grown_forgotten, grown_lost, grown_same, grown_settled, grown_then, Turns, broken_at, broken_by, silent_at, silent_some, turns_born, turns_grown, turns_left, turns_moved, turns_same}
+use Rattle.gateway_theory.specs.lemmas.Turns.{Grown, grown_back, grown_broken, grown_ended, grown_entered, grown_forgotten, grown_lost, grown_same, grown_settled, grown_then, Turns, broken_at, silent_at, silent_some, turns_born, turns_grown, turns_left, turns_moved, turns_same}
 use Rattle.gateway_theory.specs.lemmas.HeldSteps.{hears_parts, holds_hung}
-use Rattle.gateway_theory.specs.lemmas.HeldValues.{late_step}
 
 -- ---- jobs
 
@@ -58,10 +31,7 @@ arriving_own moment drained x k = by moment drained (is_full k.slots) (next_held
     by_end moment id a None = All-map (λ (j : JobValue). j.call ≡ id) (λ i. job_of id i a moment) (range_with_len 0 (first_ones a)) (λ i d lt. refl)
 
     by : (moment : ℕ) (drained crowded : Bool) (id : CallId) (x : Coming) → All (λ (j : JobValue). j.call ≡ id) (arrive moment drained crowded id x).jobs
-    by moment drained crowded id (Refused r) = none id
-    by moment drained crowded id (Request q (Judged v)) = none id
-    by moment drained true id (Request q (Asks plan timeout rid)) = none id
-    by moment drained false id (Request q (Asks plan timeout rid)) = by_end moment id (asked_of moment q plan timeout rid) (ends_first moment drained (asked_of moment q plan timeout rid))
+    by moment drained crowded id x = grind (arith, nat_tests, none, by_end)
 
 -- ---- by what becomes of each connection
 
@@ -69,29 +39,11 @@ module _ (closed breaks : ℕ → Bool) (seen : List Seen) (v w : GatewayValue) 
     (tally_is : (before : List Seen) → v.tally ≡ tally_of before → w.tally ≡ tally_of (seen ++ before)) (broken_are : (c : ℕ) → is_broken_conn c w ≡ true → is_broken_conn c v ≡ false → breaks c ≡ true)
     (jobs : List JobValue) (jobs_are : w.jobs ≡ v.jobs ++ jobs) (no_jobs : (c : ℕ) → is_silent c v ≡ true → filter (is_of c) jobs ≡ []) where
   pub keeps_turns : ((c : ℕ) → closed c ≡ true → is_silent c v ≡ true → is_silent c w ≡ true) → ((c : ℕ) → closed c ≡ false → Turns v.opened w.opened c (conn_of c v) (conn_of c w)) → KeepsBut closed breaks seen v w
-  keeps_turns shuts turns = record {
-    plans_are = plans_are;
-    begun_is = begun_is;
-    tally_is = tally_is;
-    stays_silent = λ c e. silent c e (closed c) refl;
-    stays_broken = λ c still e. (turns c still).broken e;
-    broken_are = broken_are;
-    replies_stay = λ c still. (turns c still).replies;
-    no_replies = λ c still e. (turns c still).replies_same e;
-    jobs = jobs;
-    jobs_are = jobs_are;
-    no_jobs = no_jobs;
-  }
-    where
-      silent : (c : ℕ) → is_silent c v ≡ true → (b : Bool) → closed c ≡ b → is_silent c w ≡ true
-      silent c e true off = shuts c off e
-      silent c e false still = (turns c still).silent e
+  keeps_turns shuts turns = grind arith
 
 -- where nothing changes
 pub all_keeps : (v w : GatewayValue) (breaks : ℕ → Bool) → w ≡ v → Keeps breaks v w
-all_keeps v w breaks is = keeps_turns (λ c. false) breaks [] v w (ap (λ (x : GatewayValue). x.plans) is) (λ few. ap (λ (x : GatewayValue). x.begun) is) (λ before e. ap (λ (x : GatewayValue). x.tally) is ∙ e)
-    (λ c on off. absurd (let clash : true ≡ false = sym on ∙ ap (λ x. is_broken_conn c x) is ∙ off in cc)) [] (ap (λ (x : GatewayValue). x.jobs) is ∙ sym (append-nil v.jobs)) (λ c e. refl)
-    (λ c off e. absurd (cc)) (λ c still. subst (λ n. Turns v.opened n c (conn_of c v) (conn_of c w)) (ap (λ (x : GatewayValue). x.opened) (sym is)) (turns_same v.opened c (conn_of c v) (conn_of c w) (ap (conn_of c) is)))
+all_keeps v w breaks is = grind (arith, nat_tests, keeps_turns, append-nil, Turns, turns_same)
 
 -- ---- a step of one connection
 
@@ -102,24 +54,9 @@ module _ (n : ℕ) (v w : GatewayValue) (now : Option HeldConnection) (m : Moves
 
   -- so it alone may break
   pub breaks_alone : (c : ℕ) → is_broken_conn c w ≡ true → is_broken_conn c v ≡ false → (c == n) ≡ true
-  breaks_alone c on off = by (n == c) refl
-    where
-      by : (b : Bool) → (n == c) ≡ b → (c == n) ≡ true
-      by true at = eq-eqb c n (sym (eqb-true n c at))
-      by false ne = absurd (let clash : true ≡ false = sym on ∙ broken_others c ne ∙ off in cc)
-
-  -- and where it is as broken as it was, none breaks
-  pub breaks_none : is_broken_conn n w ≡ is_broken_conn n v → (c : ℕ) → is_broken_conn c w ≡ is_broken_conn c v
-  breaks_none same_here c = by (n == c) refl
-    where
-      by : (b : Bool) → (n == c) ≡ b → is_broken_conn c w ≡ is_broken_conn c v
-      by true at = subst (λ d. is_broken_conn d w ≡ is_broken_conn d v) (eqb-true n c at) same_here
-      by false ne = broken_others c ne
+  breaks_alone c on off = grind arith
 
 -- ---- openings and closings
-
-abbrev no_entries : List ReplyEntry
-no_entries = []
 
 pub opening_keeps : (v w : GatewayValue) (number : ℕ) → Opens v w number → IsServing v → Keeps (λ c. false) v w
 opening_keeps v w number o s = keeps_turns (λ c. false) (λ c. false) [] v w (ap (λ (x : GatewayValue). x.plans) o.rest) (λ few. ap (λ (x : GatewayValue). x.begun) o.rest) (λ before e. ap (λ (x : GatewayValue). x.tally) o.rest ∙ e)
@@ -138,110 +75,35 @@ opening_keeps v w number o s = keeps_turns (λ c. false) (λ c. false) [] v w (a
     opened_now c at = ap (λ d. conn_of d w) (sym (eqb-true v.opened c at)) ∙ o.moves.here
 
     none : (b : Bool) → (b && false) ≡ false
-    none true = refl
-    none false = refl
+    none b = grind (arith, nat_tests)
 
     never : (b : Bool) → (b && not b) ≡ false
-    never true = refl
-    never false = refl
+    never b = grind (arith, nat_tests)
 
     -- of the new one nothing can be taken, and nothing could before
     new_turns : (c : ℕ) → v.opened ≡ c → Turns v.opened w.opened c None (Some (new_held v.opened))
-    new_turns c is = record {
-      silent = λ e. absurd (let clash : true ≡ false = sym e ∙ ap (λ b. b && true) (le-ltb c v.opened (omega (arith, is))) in cc);
-      broken = λ e. absurd (let clash : true ≡ false = sym e ∙ none (nat_lt c v.opened && not (nat_lt c v.opened)) in cc);
-      replies = ([], nothing (nat_lt c w.opened && true) ∙ ap (λ xs. xs ++ []) (sym (nothing (nat_lt c v.opened && not (nat_lt c v.opened)))));
-      replies_same = λ e. absurd (let clash : true ≡ false = sym e ∙ ap (λ b. b && true) (le-ltb c v.opened (omega (arith, is))) in cc);
-    }
-      where
-        nothing : (b : Bool) → (if b then no_entries else no_entries) ≡ no_entries
-        nothing true = refl
-        nothing false = refl
+    new_turns c h1 = grind (arith, nat_tests)
 
     turns : (c : ℕ) (b : Bool) → (v.opened == c) ≡ b → Turns v.opened w.opened c (conn_of c v) (conn_of c w)
     turns c false ne = subst (Turns v.opened w.opened c (conn_of c v)) (sym (o.moves.others c ne)) (turns_born v.opened w.opened c (conn_of c v) (born_same c ne))
     turns c true at = subst (λ x. Turns v.opened w.opened c x (conn_of c w)) (sym (unborn c at)) (subst (Turns v.opened w.opened c None) (sym (opened_now c at)) (new_turns c (eqb-true v.opened c at)))
 
     broken_are : (c : ℕ) → is_broken_conn c w ≡ true → is_broken_conn c v ≡ false → false ≡ true
-    broken_are c on off = by (v.opened == c) refl
-      where
-        by : (b : Bool) → (v.opened == c) ≡ b → false ≡ true
-        by true at = absurd (let clash : true ≡ false = sym on ∙ ap (broken_at w.opened c) (opened_now c at) ∙ none (nat_lt c w.opened && true) in cc)
-        by false ne = absurd (let clash : false ≡ true = sym off ∙ sym (ap (broken_at w.opened c) (o.moves.others c ne) ∙ ap (λ b. broken_by b c (conn_of c v)) (born_same c ne)) ∙ on in cc)
+    broken_are c h1 h2 = grind (arith, nat_tests)
 
 -- of one that is not open nothing closes
 unclosing : (n : ℕ) (v w : GatewayValue) → w ≡ v → KeepsBut (λ c. c == n) (λ c. false) [] v w
-unclosing n v w is = keeps_turns (λ c. c == n) (λ c. false) [] v w (ap (λ (x : GatewayValue). x.plans) is) (λ few. ap (λ (x : GatewayValue). x.begun) is) (λ before e. ap (λ (x : GatewayValue). x.tally) is ∙ e)
-    (λ c on off. absurd (let clash : true ≡ false = sym on ∙ ap (λ x. is_broken_conn c x) is ∙ off in cc)) [] (ap (λ (x : GatewayValue). x.jobs) is ∙ sym (append-nil v.jobs)) (λ c e. refl)
-    (λ c off e. ap (is_silent c) is ∙ e) (λ c still. subst (λ n. Turns v.opened n c (conn_of c v) (conn_of c w)) (ap (λ (x : GatewayValue). x.opened) (sym is)) (turns_same v.opened c (conn_of c v) (conn_of c w) (ap (conn_of c) is)))
+unclosing n v w is = grind (arith, nat_tests, keeps_turns, append-nil, Turns, turns_same)
 
 pub closing_keeps : (n : ℕ) (v w : GatewayValue) (result : Bool) → Closes n v w result → IsServing v → KeepsBut (λ c. c == n) (λ c. false) [] v w
-closing_keeps n v w result (absent none r w_is) s = unclosing n v w w_is
-closing_keeps n v w result (shut k k_is off r w_is) s = unclosing n v w w_is
-closing_keeps n v w result (closes k k_is still r m w_is) s = keeps_turns (λ c. c == n) (λ c. false) [] v w (ap (λ (x : GatewayValue). x.plans) w_is) (λ few. ap (λ (x : GatewayValue). x.begun) w_is)
-    (λ before e. ap (λ (x : GatewayValue). x.tally) w_is ∙ e) broken_are [] (ap (λ (x : GatewayValue). x.jobs) w_is ∙ sym (append-nil v.jobs)) (λ c e. refl) silent turns
-  where
-    opened_is : w.opened ≡ v.opened
-    opened_is = ap (λ (x : GatewayValue). x.opened) w_is
-
-    apart : (c : ℕ) → (c == n) ≡ false → (n == c) ≡ false
-    apart c ne = sym_eqb n c ∙ ne
-
-    turns : (c : ℕ) → (c == n) ≡ false → Turns v.opened w.opened c (conn_of c v) (conn_of c w)
-    turns c ne = subst (λ x. Turns v.opened x c (conn_of c v) (conn_of c w)) (sym opened_is) (turns_same v.opened c (conn_of c v) (conn_of c w) (m.others c (apart c ne)))
-
-    -- it is not open any more
-    silent_left : (b : Bool) → option_map_or (λ (x : HeldConnection). x.broken) (if_open (if b then None else Some (closed_held k))) true ≡ true
-    silent_left true = refl
-    silent_left false = refl
-
-    silent : (c : ℕ) → (c == n) ≡ true → is_silent c v ≡ true → is_silent c w ≡ true
-    silent c at e =
-        let here : conn_of c w ≡ left_of (closed_held k) = ap (λ d. conn_of d w) (eqb-true c n at) ∙ m.here in
-        let born : nat_lt c w.opened ≡ true = ap (nat_lt c) opened_is ∙ lt-ltb c v.opened (subst (λ d. d < v.opened) (sym (eqb-true c n at)) (s.each n k k_is).born) in
-        ap (λ x. nat_lt c w.opened && option_map_or (λ (y : HeldConnection). y.broken) (if_open x) true) here
-        ∙ ap (λ b. nat_lt c w.opened && b) (silent_left (is_gone (closed_held k))) ∙ ap (λ b. b && true) born
-
-    none : (b : Bool) → (b && false) ≡ false
-    none true = refl
-    none false = refl
-
-    broken_left : (c : ℕ) (b : Bool) → broken_at w.opened c (if b then None else Some (closed_held k)) ≡ false
-    broken_left c true = none (nat_lt c w.opened && not (nat_lt c w.opened))
-    broken_left c false = none (nat_lt c w.opened && false)
-
-    broken_are : (c : ℕ) → is_broken_conn c w ≡ true → is_broken_conn c v ≡ false → false ≡ true
-    broken_are c on off = by (n == c) refl
-      where
-        by : (b : Bool) → (n == c) ≡ b → false ≡ true
-        by true at = absurd (let clash : true ≡ false = sym on ∙ ap (broken_at w.opened c) (ap (λ d. conn_of d w) (sym (eqb-true n c at)) ∙ m.here) ∙ broken_left c (is_gone (closed_held k)) in cc)
-        by false ne = absurd (let clash : true ≡ false = sym on ∙ broken_others n v w (left_of (closed_held k)) m opened_is c ne ∙ off in cc)
+closing_keeps n v w result h4 h5 = search (arith, nat_tests, unclosing, keeps_turns, append-nil, sym_eqb, Turns, turns_same, eqb-true, lt-ltb, broken_at, broken_others)
 
 -- ---- bytes
 
 -- as many calls were begun as are kept more
 fed_sum : (plans : List PlanRecord) (moment : ℕ) (drained : Bool) (bytes : List ℕ) (begun : ℕ) (k : HeldConnection) (then_begun : ℕ) (l : HeldConnection) (jobs : List JobValue) (result : Result ℕ StepFault)
     → TakesBytes plans moment drained bytes begun k then_begun l jobs result → (begun ≤ then_begun) × (then_begun + length k.calls ≡ begun + length l.calls) × (begun < then_begun → then_begun ≤ most_begun)
-fed_sum plans moment drained bytes begun k then_begun l jobs result t = by t
-  where
-    none_more : then_begun ≡ begun → length l.calls ≡ length k.calls → (begun ≤ then_begun) × (then_begun + length k.calls ≡ begun + length l.calls) × (begun < then_begun → then_begun ≤ most_begun)
-    none_more same size = (omega (arith, same), omega (arith, same, size), λ more. absurd (omega (arith, more, same)))
-
-    one_more : (id : CallId) (s : Step) (live : Option Live) → length (kept_now id s live) ≡ (if is_some live then 1 else 0)
-    one_more id s None = refl
-    one_more id s (Some l) = refl
-
-    by : TakesBytes plans moment drained bytes begun k then_begun l jobs result → (begun ≤ then_begun) × (then_begun + length k.calls ≡ begun + length l.calls) × (begun < then_begun → then_begun ≤ most_begun)
-    by (not_fed off r l_is none same) = none_more same (ap (λ (x : HeldConnection). length x.calls) l_is)
-    by (dropped on over r l_is none same) = none_more same (ap (λ (x : HeldConnection). length x.calls) l_is)
-    by (unread on going r l_is none same) = none_more same (ap (λ (x : HeldConnection). length x.calls) l_is ∙ length-map k.calls given_up)
-    by (read on going n reader reads none_comes r l_is none same) = none_more same (ap (λ (x : HeldConnection). length x.calls) l_is)
-    by (came on going n request reader x reads comes r l_is jobs_are more few) =
-        let s = arriving_in moment drained x k in
-        let size : length l.calls ≡ length k.calls + begun_by s =
-        ap (λ (y : HeldConnection). length y.calls) l_is ∙ length-append k.calls (kept_now (next_held k) s s.call.live) ∙ ap (λ m. length k.calls + m) (one_more (next_held k) s s.call.live) in
-        (omega (arith, more), omega (arith, more, size), few)
-    by (broke on going n request reader x reads comes fault why r l_is none same) = none_more same (ap (λ (y : HeldConnection). length y.calls) l_is ∙ length-map k.calls given_up)
+fed_sum plans moment drained bytes begun k then_begun l jobs result t = grind (arith, nat_tests, length-map, length-append)
 
 fed_grown : (plans : List PlanRecord) (moment : ℕ) (drained : Bool) (bytes : List ℕ) (begun : ℕ) (k : HeldConnection) (then_begun : ℕ) (l : HeldConnection) (jobs : List JobValue) (result : Result ℕ StepFault)
     → TakesBytes plans moment drained bytes begun k then_begun l jobs result → Grown k l
@@ -273,21 +135,13 @@ none_silent n v k jobs k_is number_is (inl none) c e = ap (λ js. filter (is_of 
 none_silent n v k jobs k_is number_is (inr (goes, own)) c e = by (n == c) refl
   where
     never : (b : Bool) → (b && false) ≡ false
-    never true = refl
-    never false = refl
+    never b = grind (arith, nat_tests)
 
     by : (b : Bool) → (n == c) ≡ b → filter (is_of c) jobs ≡ []
-    by false ne = own_jobs n c jobs ne (subst (λ m. All (λ (j : JobValue). j.call.conn ≡ m) jobs) number_is own)
-    by true at = absurd (
-        let quiet : is_silent c v ≡ false = ap (λ x. silent_at v.opened c x) (ap (λ d. conn_of d v) (sym (eqb-true n c at)) ∙ k_is) ∙ silent_some v.opened c k ∙ ap (λ b. nat_lt c v.opened && b) goes ∙ never (nat_lt c v.opened) in
-        let clash : true ≡ false = sym e ∙ quiet in cc)
+    by b h1 = grind (arith, nat_tests, own_jobs, silent_at, eqb-true, silent_some, never)
 
 pub fed_counts : (n : ℕ) (bytes : List ℕ) (v w : GatewayValue) (result : Result ℕ StepFault) → Feeds n bytes v w result → CountsCalls v w
-fed_counts n bytes v w result (absent none r w_is) = record {
-  grows = let same : w.begun ≡ v.begun = ap (λ (x : GatewayValue). x.begun) w_is in omega (arith, same);
-  sum_is = let same : w.begun ≡ v.begun = ap (λ (x : GatewayValue). x.begun) w_is in let size : calls_kept w ≡ calls_kept v = ap calls_kept w_is in omega (arith, same, size);
-  few = λ more. absurd (let same : w.begun ≡ v.begun = ap (λ (x : GatewayValue). x.begun) w_is in omega (arith, more, same));
-}
+fed_counts n bytes v w result (absent none r w_is) = grind arith
 fed_counts n bytes v w result (there k l jobs k_is t m w_is) = let x = fed_sum v.plans v.moment v.drained bytes v.begun k w.begun l jobs result t in record {
   grows = x.0;
   sum_is = let kept = m.kept_is in let old : kept_in (conn_of n v) ≡ length k.calls = ap kept_in k_is in let sum = x.1 in omega (arith, kept, old, sum);
@@ -309,8 +163,7 @@ fed_keeps n bytes v w result (there k l jobs k_is t m w_is) s = keeps_turns (λ 
     own = by (fed_jobs v.plans v.moment v.drained bytes v.begun k w.begun l jobs result t)
       where
         by : (jobs ≡ []) ⊎ ((hears k ≡ true) × All (λ (j : JobValue). j.call.conn ≡ k.number) jobs) → (jobs ≡ []) ⊎ (((k.closed || k.broken) ≡ false) × All (λ (j : JobValue). j.call.conn ≡ k.number) jobs)
-        by (inl none) = inl none
-        by (inr (on, its)) = let parts = hears_parts k on in inr (rw (parts.0, parts.1) refl, its)
+        by h0 = grind (arith, nat_tests)
 
 -- ---- a hang-up
 
@@ -361,15 +214,7 @@ taken_grown moment id branch outcome k l jobs took (lost i found out live t forg
 -- of one that is closed or broken no job starts
 taken_jobs : (moment : ℕ) (id : CallId) (branch : ℕ) (outcome : Outcome) (k l : HeldConnection) (jobs : List JobValue) (took : Took) → TakesResult moment id branch outcome k l jobs took → Holds k
     → (jobs ≡ []) ⊎ (((k.closed || k.broken) ≡ false) × All (λ (j : JobValue). j.call.conn ≡ k.number) jobs)
-taken_jobs moment id branch outcome k l jobs took (unknown out t l_is none) h = inl none
-taken_jobs moment id branch outcome k l jobs took (lost i found out live t forgets none) h = inl none
-taken_jobs moment id branch outcome k l jobs took (settled place found out t forgets jobs_are own) h = by (k.closed || k.broken) refl
-  where
-    by : (b : Bool) → (k.closed || k.broken) ≡ b → (jobs ≡ []) ⊎ (((k.closed || k.broken) ≡ false) × All (λ (j : JobValue). j.call.conn ≡ k.number) jobs)
-    by false goes = inr (goes, λ i d lt. ap (λ (id : CallId). id.conn) (own i d lt) ∙ All-get_or (λ (c : KeptValue). c.id.conn ≡ k.number) k.calls place no_call found.0 h.own)
-    by true off =
-        let dead : (kept_at place k.calls).call.live ≡ None = All-get_or (λ (c : KeptValue). c.call.live ≡ None) k.calls place no_call found.0 (h.dead off) in
-        inl (jobs_are ∙ ap (λ (s : Step). s.jobs) (late_step moment branch outcome place k dead))
+taken_jobs moment id branch outcome k l jobs took h8 h9 = grind (arith, nat_tests)
 
 starved_grown : (id : CallId) (branch : ℕ) (k l : HeldConnection) (took : Took) → TakesStarved id branch k l took → Grown k l
 starved_grown id branch k l took (unknown out t l_is) = subst (Grown k) (sym l_is) (grown_same k k refl (λ e. e) refl)
@@ -386,9 +231,7 @@ result_by n seen v w k l jobs k_is m tally plans_are opened_is begun_is jobs_are
 
 -- .. of a call that is not kept
 unknown_by : (n : ℕ) (seen : Seen) (v w : GatewayValue) → Tallies seen v w → w ≡ record v { tally = w.tally } → KeepsBut (λ c. false) (λ c. c == n) (seen ∷ []) v w
-unknown_by n seen v w tally is = keeps_turns (λ c. false) (λ c. c == n) (seen ∷ []) v w (ap (λ (x : GatewayValue). x.plans) is) (λ few. ap (λ (x : GatewayValue). x.begun) is) tally
-    (λ c on off. absurd (let clash : true ≡ false = sym on ∙ ap (λ x. is_broken_conn c x) is ∙ off in cc)) [] (ap (λ (x : GatewayValue). x.jobs) is ∙ sym (append-nil v.jobs)) (λ c e. refl)
-    (λ c off e. absurd (cc)) (λ c still. subst (λ n. Turns v.opened n c (conn_of c v) (conn_of c w)) (ap (λ (x : GatewayValue). x.opened) (sym is)) (turns_same v.opened c (conn_of c v) (conn_of c w) (ap (conn_of c) is)))
+unknown_by n seen v w tally is = grind (arith, nat_tests, keeps_turns, append-nil, Turns, turns_same)
 
 pub result_keeps : (id : CallId) (branch : ℕ) (outcome : Outcome) (v w : GatewayValue) (took : Took) → Results id branch outcome v w took → IsServing v → KeepsBut (λ c. false) (λ c. c == id.conn) (took.seen ∷ []) v w
 result_keeps id branch outcome v w took (absent none t tally w_is) s = unknown_by id.conn took.seen v w tally w_is

@@ -1,38 +1,17 @@
 -- What is known of the gateway, by the events that it stands for.
-use Rattle.std.proofs.Common.{◌≡◌, ℕ, zero, suc, ◌≤◌, ◌<◌, Bool, true, false, List, [], ◌∷◌, ◌++◌, length, Option, None, Some, refl, sym, ap, ◌∙◌, subst, arith, append_assoc, append-nil, ⊎_elim, map}
-use Rattle.std.specs.Prelude.{not, slice_index_or, ◌&&◌, is_some, if◌then◌else◌, nat_lt, option_map}
-use Rattle.std.specs.List.{count_by, range_with_len}
-use Rattle.std.specs.Option.{option_map_or}
-use Rattle.std.proofs.lemmas.Bool.{cases_Bool, cases_eq, cond_both, and_parts, lt-ltb}
-use Rattle.std.proofs.lemmas.List.{take_all}
-use Rattle.gateway_model.specs.declared.call_event.CallEvent.{CallEvent}
-use Rattle.gateway_model.specs.declared.call_event.CallEvent.TheVariants.{Answer as Answered, Failed, Expired, BranchExpired, HungUp, Drained}
-use Rattle.gateway_model.specs.declared.id.CallId.{CallId}
-use Rattle.gateway_model.specs.CallRecord.{CallRecord, last_event}
-use Rattle.gateway_theory.specs.LiveStands.{LiveStands, MayLive}
-use Rattle.gateway_model.specs.Occurrence.{Occurrence}
-use Rattle.gateway_model.specs.Past.{ArrivedCall, Past, began, branches, call, count_below, decides, is_out, marked, outs, started, branch_deadlines, call_id, can_be_decided, deadline_from, is_broken, started_when}
-use Rattle.gateway_model.specs.Queue.{own_events, record_of, front, queued_entries}
+use Rattle.std.specs.Prelude.{◌≡◌, ◌≤◌, ◌<◌, ◌∷◌, ◌++◌, ◌&&◌, if◌then◌else◌}
+use Rattle.gateway_theory.specs.lemmas.Names.{ℕ, zero, suc, Bool, true, false, List, [], length, Option, None, Some, refl, sym, ap, ◌∙◌, subst, arith, append_assoc, ⊎_elim, nat_tests, not, slice_index_or, nat_lt, option_map, count_by, option_map_or, cases_Bool, cases_eq, cond_both, and_parts, lt-ltb, take_all, CallEvent, CallId, CallRecord, last_event, LiveStands, MayLive, Occurrence, ArrivedCall, Past, branches, call, count_below, decides, is_out, marked, outs, started, branch_deadlines, call_id, is_broken, own_events, record_of, front, queued_entries, Live, ConnectionValue, shown_of, ReplyEntry, JobValue, record_now, IsKnown, own, without_breaks, Placed, occurrences, AllStand, Now, by_events, Occurs, History, CoreValue, HasConns, Lives, Served}
+use Rattle.std.proofs.Common.{append-nil}
 use Rattle.gateway_model.specs.Record.{answers_among, is_decided, is_ending, is_lawful}
-use Rattle.gateway_theory.specs.Values.{Live, ConnectionValue, shown_of}
 use Rattle.gateway_theory.specs.lemmas.LimitLemmas.{count_less, out_started, outs_limit}
 use Rattle.gateway_theory.specs.lemmas.RecordLemmas.{Going, among_more, none_decides, lawful, same_follow}
 use Rattle.gateway_theory.specs.lemmas.SlotLemmas.{count_take}
 use Rattle.gateway_theory.specs.lemmas.StandsLemmas.{last_is}
-use Rattle.gateway_model.specs.declared.entry.ReplyEntry.{ReplyEntry}
-use Rattle.gateway_model.specs.Job.{JobValue}
-use Rattle.gateway_model.specs.Known.{record_now, IsKnown}
-use Rattle.gateway_model.specs.Own.{own, without_breaks}
-use Rattle.gateway_model.specs.Starts.{Placed, occurrences}
 use Rattle.gateway_theory.specs.lemmas.OwnLemmas.{Alike, map_range, own_alike}
-use Rattle.gateway_theory.specs.Connection.{AllStand, Now}
 use Rattle.gateway_theory.specs.lemmas.Standing.{outs_stand, queue_stands}
-use Rattle.gateway_model.specs.Breaks.{by_events}
-use Rattle.gateway_model.specs.Events.{Occurs}
-use Rattle.gateway_model.specs.History.{History}
 use Rattle.gateway_theory.specs.lemmas.StoreLemmas.{some_same}
 use Rattle.gateway_theory.specs.lemmas.PrefixLemmas.{call_within, events_occur}
-use Rattle.gateway_theory.specs.Core.{CoreValue, HasConns, Lives, Served, shown}
+use Rattle.gateway_theory.specs.Core.{shown}
 
 -- ---- counting
 
@@ -57,13 +36,7 @@ within (suc m) n p h =
 -- ---- branches that are out
 
 out_within : (id : CallId) (i : ℕ) (past : Past) → is_out id i past ≡ true → i < branches id past
-out_within id i past out = by_call (call id past) refl (began id past) refl (out_started id i past out)
-  where
-    by_call : (o : Option ArrivedCall) → call id past ≡ o → (b : Bool) → began id past ≡ b → i < started id past → i < branches id past
-    by_call (Some a) o_is true b_is lt = let least = rw (b_is, o_is) at lt in rw o_is (omega (arith, least))
-    by_call (Some a) o_is false b_is lt = let none = rw b_is at lt in absurd (omega (arith, none))
-    by_call None o_is true b_is lt = let none = rw (b_is, o_is) at lt in absurd (omega (arith, none))
-    by_call None o_is false b_is lt = let none = rw b_is at lt in absurd (omega (arith, none))
+out_within id i past out = grind (arith, nat_tests, out_started)
 
 outs_at_most : (id : CallId) (out : List Bool) (past : Past) → ((i : ℕ) → slice_index_or out i false ≡ true → is_out id i past ≡ true) → count_by (λ b. b) out ≤ outs id past
 outs_at_most id out past h =
@@ -103,20 +76,7 @@ abbrev ends : CallRecord → List CallEvent → Bool
 ends r es = option_map_or (is_ending (answers_among es) (length r.plan.branches)) (last_event es) false
 
 goes_behind : (r : CallRecord) (before : List CallEvent) (e : CallEvent) → not (decides (answers_among before) (length r.plan.branches) e) ≡ true → ends r (before ++ e ∷ []) ≡ false
-goes_behind r before e on = rw (last_is before e) (by_event e on)
-  where
-    by_not : (b : Bool) → not b ≡ true → b ≡ false
-    by_not false e = refl
-    by_not true e = absurd (cc)
-
-    by_event : (x : CallEvent) → not (decides (answers_among before) (length r.plan.branches) x) ≡ true
-        → is_ending (answers_among (before ++ x ∷ [])) (length r.plan.branches) x ≡ false
-    by_event (Answered i body) on = rw (among_more before (Answered i body)) (by_not _ on)
-    by_event (Failed i error) on = absurd (cc)
-    by_event (Expired t) on = absurd (cc)
-    by_event (BranchExpired i t) on = absurd (cc)
-    by_event HungUp on = absurd (cc)
-    by_event Drained on = absurd (cc)
+goes_behind r before e on = grind (arith, nat_tests, last_is, among_more)
 
 ends_never : (r : CallRecord) (before es : List CallEvent) → none_decides r before es ≡ true → ends r before ≡ false → ends r (before ++ es) ≡ false
 ends_never r before [] on so_far = subst (λ xs. ends r xs ≡ false) (sym (append-nil before)) so_far
@@ -141,54 +101,22 @@ module _ (c k : ℕ) (p q : Past) (h : Alike c p q) where
   started_alike = rw (h.began_is k, h.call_is k, h.answers_are k) refl
 
   deadlines_alike : branch_deadlines (call_id c k) p ≡ branch_deadlines (call_id c k) q
-  deadlines_alike =
-      ap (λ o. option_map_or (λ (a : ArrivedCall). map (λ i. deadline_from (started_when (call_id c k) i p) a.plan i) (range_with_len 0 (started (call_id c k) p))) o []) (h.call_is k)
-      ∙ by (call (call_id c k) q)
-      ∙ ap (λ n. option_map_or (λ (a : ArrivedCall). map (λ i. deadline_from (started_when (call_id c k) i q) a.plan i) (range_with_len 0 n)) (call (call_id c k) q) []) started_alike
-    where
-      by : (o : Option ArrivedCall)
-          → option_map_or (λ (a : ArrivedCall). map (λ i. deadline_from (started_when (call_id c k) i p) a.plan i) (range_with_len 0 (started (call_id c k) p))) o []
-          ≡ option_map_or (λ (a : ArrivedCall). map (λ i. deadline_from (started_when (call_id c k) i q) a.plan i) (range_with_len 0 (started (call_id c k) p))) o []
-      by None = refl
-      by (Some a) = map_range _ _ 0 (started (call_id c k) p) (λ i lt. ap (λ m. deadline_from m a.plan i) (h.when_is k i (lt-ltb i (started (call_id c k) p) (omega (arith, lt)))))
+  deadlines_alike = grind (arith, nat_tests, started_alike, map_range, lt-ltb)
 
   record_alike : record_now (call_id c k) p ≡ record_now (call_id c k) q
-  record_alike =
-      now_like (can_be_decided (call_id c k) p) (can_be_decided (call_id c k) q) (rw (h.decided_is k, h.shut_is) refl) (call (call_id c k) p) (call (call_id c k) q) (h.call_is k)
-      (branch_deadlines (call_id c k) p) (branch_deadlines (call_id c k) q) deadlines_alike (own_events (call_id c k) p) (own_events (call_id c k) q) (h.events_are k)
-    where
-      now_like : (a b : Bool) → a ≡ b → (x y : Option ArrivedCall) → x ≡ y → (ds es : List (Option ℕ)) → ds ≡ es → (us ws : List CallEvent) → us ≡ ws
-          → (if a then option_map (λ (z : ArrivedCall). record_of z ds us) x else None) ≡ (if b then option_map (λ (z : ArrivedCall). record_of z es ws) y else None)
-      now_like a b ab x y xy ds es de us ws uw = λ i. if ab i then option_map (λ (z : ArrivedCall). record_of z (de i) (uw i)) (xy i) else None
+  record_alike = grind (arith, nat_tests, deadlines_alike)
 
 -- the record so far of a call, as it is kept
 record_stands : (id : CallId) (live : Option Live) (out : List Bool) (past : Past) → MayLive id live out past
     → option_map (λ (l : Live). record_of l.asked l.deadlines l.events) live ≡ record_now id past
-record_stands id live out past h = by live h
-  where
-    none_now : (b : Bool) (a : Option ArrivedCall) → (is_some a && b) ≡ false
-        → None ≡ (if b then option_map (λ c. record_of c (branch_deadlines id past) (own_events id past)) a else None)
-    none_now true (Some c) dead = absurd (cc)
-    none_now true None dead = refl
-    none_now false a dead = refl
-
-    by : (k : Option Live) → MayLive id k out past → option_map (λ (l : Live). record_of l.asked l.deadlines l.events) k ≡ record_now id past
-    by None dead = none_now (can_be_decided id past) (call id past) dead
-    by (Some l) s =
-        let on : can_be_decided id past ≡ true = rw (s.undecided, s.unshut) refl in
-        ap (λ ds. Some (record_of l.asked ds l.events)) s.deadlines_are
-        ∙ ap (λ es. Some (record_of l.asked (branch_deadlines id past) es)) s.events_are
-        ∙ sym (ap (λ (a : Option ArrivedCall). option_map (λ c. record_of c (branch_deadlines id past) (own_events id past)) a) s.call_is)
-        ∙ sym (ap (λ (b : Bool). if b then option_map (λ c. record_of c (branch_deadlines id past) (own_events id past)) (call id past) else None) on)
+record_stands id live out past h = grind arith
 
 module _ (n : Now) (conns : ℕ → ConnectionValue) (opened : ℕ) (taken : ℕ → List ReplyEntry) (handed waiting : List JobValue) (os : List Occurrence) (h : AllStand n conns taken handed waiting os) where
   pub broken_stands : (c : ℕ) → (conns c).closed ≡ false → (conns c).broken ≡ is_broken c (marked os)
   broken_stands c still = (h.each c).broken_is ∙ ap (λ b. not b && is_broken (conns c).number (marked (own c os))) still ∙ ap (λ d. is_broken d (marked (own c os))) (h.numbers c) ∙ sym (own_alike c os).broken_is
 
   still : (a b : Bool) → (a && not b) ≡ true → b ≡ false
-  still true false e = refl
-  still true true e = absurd (cc)
-  still false b e = absurd (cc)
+  still a b h2 = grind (arith, nat_tests)
 
   pub broken_shown : (c : ℕ) → (shown_of opened conns waiting).is_open c ≡ true → (shown_of opened conns waiting).is_broken c ≡ is_broken c (marked os)
   broken_shown c there = ap (λ b. b && (conns c).broken) there ∙ broken_stands c (still (nat_lt c opened) (conns c).closed there)
@@ -217,15 +145,7 @@ record_lawful id r (Some l) out os s is = subst (λ (k : CallRecord). (is_lawful
 
 -- no more branches are out than the limit of the call, which is by the events alone
 within_limit : (id : CallId) (a : ArrivedCall) (os others : List Occurrence) → without_breaks os ≡ others → call id (marked others) ≡ Some a → outs id (marked os) ≤ a.plan.limit
-within_limit id a os others same a_is = by (call id (marked os)) refl
-  where
-    by : (b : Option ArrivedCall) → call id (marked os) ≡ b → outs id (marked os) ≤ a.plan.limit
-    by None b_is = let none : outs id (marked os) ≡ 0 = rw b_is refl in omega (arith, none)
-    by (Some b) b_is =
-        let most : outs id (marked os) ≤ b.plan.limit = outs_limit id os b b_is in
-        let alike : Some b ≡ Some a = sym (call_within id b os b_is) ∙ ap (λ us. call id (marked us)) same ∙ a_is in
-        let limits : b.plan.limit ≡ a.plan.limit = ap (λ y. option_map_or (λ (z : ArrivedCall). z.plan.limit) y 0) alike in
-        omega (arith, most, limits)
+within_limit id a os others same a_is = grind (arith, nat_tests, outs_limit, call_within)
 
 -- where this was lived
 module _ (v : CoreValue) (h : History) (os : List Occurrence) (conns : HasConns v h.opened h.events) (lived : List Placed) (same : occurrences (by_events lived) ≡ os) (l : Lives v h lived) where
@@ -238,9 +158,7 @@ module _ (v : CoreValue) (h : History) (os : List Occurrence) (conns : HasConns 
   outs_kept id = outs_shown v.now v.conns v.opened h.taken h.handed v.waiting (occurrences lived) l.stands id.conn id.request
 
   outs_few : (id : CallId) (a : ArrivedCall) → call id (marked os) ≡ Some a → (shown v).outs id ≤ a.plan.limit
-  outs_few id a a_is =
-      let most : outs id (marked (occurrences lived)) ≤ a.plan.limit = within_limit id a (occurrences lived) os (sym (events_occur lived) ∙ same) a_is in
-      let few = outs_kept id in omega (arith, few, most)
+  outs_few id a a_is = grind (arith, nat_tests, within_limit, events_occur, outs_kept)
 
   known_lived : IsKnown (shown v) h os
   known_lived = record {

@@ -1,7 +1,6 @@
 -- One more opening that succeeds behind some events changes nothing of what these come to.
-use Rattle.std.proofs.Common.{◌≡◌, ℕ, ◌<◌, ◌≤◌, true, List, [], ◌∷◌, ◌++◌, length, ap, ◌∙◌}
-use Rattle.gateway_model.specs.Events.{Before, connections, is_open, open_connections, succeeds}
-use Rattle.gateway_model.specs.Past.{count_below}
+use Rattle.std.specs.Prelude.{◌≡◌, ◌<◌, ◌≤◌, ◌∷◌, ◌++◌}
+use Rattle.gateway_theory.specs.lemmas.Names.{ℕ, true, List, [], length, ap, ◌∙◌, Before, connections, is_open, open_connections, succeeds, count_below}
 use Rattle.gateway_theory.specs.lemmas.CutLemmas.{IsSame, same_before}
 use Rattle.gateway_theory.specs.lemmas.ServedOpens.{grown}
 use Rattle.gateway_theory.specs.lemmas.SlotLemmas.{count_same}

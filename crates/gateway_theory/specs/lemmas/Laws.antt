@@ -1,37 +1,14 @@
 -- The public clauses of the gateway's calls, by the exact step of each call and by what holds between two calls.
-use Rattle.std.proofs.Common.{◌≡◌, ℕ, zero, suc, ◌+◌, ◌≤◌, map, Bool, true, false, List, [], ◌∷◌, ◌++◌, length, Option, None, Some, Result, Ok, Err, refl, sym, ap, ◌∙◌, subst, arith}
-use Rattle.std.specs.Prelude.{⊤, ◌==◌, if◌then◌else◌, IfOk, IfSome, OnOk, is_some, option_map, option_to_list}
-use Rattle.std.proofs.lemmas.Bool.{le-ltb}
-use Rattle.http_pieces.specs.Reader.{HasRead}
-use Rattle.call_plan.specs.Plan.{PlanRecord}
-use Rattle.connect_codec.specs.declared.answer.Outcome.{Outcome}
-use Rattle.gateway_model.specs.Events.{Occurs, open_connections}
-use Rattle.gateway_model.specs.History.{History, after_event, no_history}
-use Rattle.gateway_model.specs.Known.{IsKnown}
-use Rattle.gateway_model.specs.Own.{own}
+use Rattle.std.specs.Prelude.{◌≡◌, ◌+◌, ◌≤◌, ◌∷◌, ◌++◌, ◌==◌, if◌then◌else◌}
+use Rattle.gateway_theory.specs.lemmas.Names.{ℕ, zero, suc, map, Bool, true, false, List, [], length, Option, None, Some, Ok, Err, refl, sym, ap, ◌∙◌, subst, arith, nat_tests, ⊤, IfOk, IfSome, OnOk, is_some, option_map, option_to_list, le-ltb, HasRead, PlanRecord, Outcome, Occurs, open_connections, History, after_event, no_history, IsKnown, own, length-append, length-map, arrivals, count_below, is_broken, marked, queued_entries, Placed, occurrences, Event, BranchResult, CallId, ReplyValue, RequestLaws, HandedJob, StepFault, Took, not_kept, GatewayValue, connection, conn_of, shown, HeldConnection, call_in, core_of, is_broken_conn, is_open_conn, next_reply, one_if_open, open_count, untaken_of, new_reader, CountsCalls, IsServing, Keeps, KeepsBut, NotListening, TakesOnly, TakesSome, TellsStep, WouldBegin, Closes, Drains, Feeds, HangsUpAt, Opens, Reaches, Results, Starves, TakesJob, TakesReplyAt, first_gateway, open_in, AddsEvent, AddsOpening, HandsJobs, HandsReply, IsWanted, LeavesLived, LeavesReplied, OpensFew, TakesEvent, TakesOneOf, TakesOpening, TellsTook}
+use Rattle.std.proofs.Common.{Result}
 use Rattle.gateway_theory.specs.lemmas.OwnLemmas.{own_alike}
-use Rattle.std.proofs.lemmas.List.{length-append, length-map}
-use Rattle.gateway_model.specs.Past.{arrivals, count_below, is_broken, marked}
-use Rattle.gateway_model.specs.Queue.{queued_entries}
-use Rattle.gateway_model.specs.Starts.{Placed, occurrences}
-use Rattle.gateway_model.specs.declared.event.Event.{Event}
-use Rattle.gateway_model.specs.declared.event.Event.TheVariants.{BranchResult, Closing, Drain, HangUp, Moment, Opening}
-use Rattle.gateway_model.specs.declared.id.CallId.{CallId}
-use Rattle.gateway_theory.specs.Replies.{ReplyValue}
-use Rattle.gateway_theory.specs.RequestLaws.{RequestLaws}
-use Rattle.gateway_theory.specs.Task.{HandedJob}
-use Rattle.gateway_theory.specs.declared.fault.StepFault.{StepFault}
+use Rattle.gateway_model.specs.declared.event.Event.TheVariants.{Closing, Drain, HangUp, Moment, Opening}
 use Rattle.gateway_theory.specs.declared.fault.StepFault.TheVariants.{Exhausted}
-use Rattle.gateway_theory.specs.declared.fault.Took.{Took}
 use Rattle.gateway_theory.specs.lemmas.ServedOpens.{never_broke, grown, occurs_before, open_count as count_open}
-use Rattle.gateway_theory.specs.Values.{not_kept, GatewayValue, connection, conn_of, shown, HeldConnection}
-use Rattle.gateway_theory.specs.Gateway.{call_in, core_of, is_broken_conn, is_open_conn, next_reply, one_if_open, open_count, untaken_of}
-use Rattle.gateway_theory.specs.Held.{new_reader}
 use Rattle.gateway_theory.specs.Served.{Adds, Lives, Served}
-use Rattle.gateway_theory.specs.Serving.{CountsCalls, HasFewCalls, IsServing, Keeps, KeepsBut, NotListening, TakesOnly, TakesSome, TellsStep, WouldBegin}
-use Rattle.gateway_theory.specs.Steps.{Closes, Drains, Feeds, HangsUpAt, Opens, Reaches, Results, Starves, TakesJob, TakesReplyAt, absent, closes, first_gateway, open_in, shut}
-use Rattle.gateway_theory.specs.Told.{AddsEvent, AddsOpening, HandsJobs, HandsReply, IsWanted, LeavesLived, LeavesReplied, OpensFew, TakesBytes, TakesEvent, TakesOneOf, TakesOpening, TellsTook}
-use Rattle.gateway_theory.specs.lemmas.Conns.{if_open_some, open_there, shut_absent, shut_there, sum_alike, sum_below, sum_values}
+use Rattle.gateway_theory.specs.Told.{TakesBytes}
+use Rattle.gateway_theory.specs.lemmas.Conns.{open_there, shut_absent, shut_there, sum_alike, sum_below, sum_values}
 use Rattle.gateway_theory.specs.lemmas.Keeps.{all_keeps, closing_keeps, draining_keeps, fed_counts, fed_keeps, hanging_keeps, opening_keeps, reaching_keeps, result_keeps, starved_keeps}
 use Rattle.gateway_theory.specs.lemmas.PiecesAdd.{feeds_one as one_fed, feeds_stand}
 use Rattle.gateway_theory.specs.lemmas.Knowing.{broken_shown, queue_shown}
@@ -90,11 +67,7 @@ module _ (v : GatewayValue) (h : History) (lived : List Placed) (l : Lives v h l
 
 count_sum : (n : ℕ) (p : ℕ → Bool) → count_below n p ≡ sum_below n (λ c. if p c then 1 else 0)
 count_sum zero p = refl
-count_sum (suc n) p = by (p n) (count_sum n p)
-  where
-    by : (b : Bool) → count_below n p ≡ sum_below n (λ c. if p c then 1 else 0) → (if b then suc (count_below n p) else count_below n p) ≡ sum_below n (λ c. if p c then 1 else 0) + (if b then 1 else 0)
-    by true rest = omega (arith, rest)
-    by false rest = omega (arith, rest)
+count_sum (suc n) p = grind (arith, count_sum n p)
 
 -- as many are open by what is kept as by the values
 open_same : (v : GatewayValue) → IsServing v → open_count v ≡ count_below v.opened (λ c. is_open_conn c v)
@@ -197,12 +170,7 @@ module _ (n : ℕ) (v w : GatewayValue) (result : Bool) (x : Closes n v w result
   closes_stands h served = core_adding.served_event (Closing n) h (core_of v) (core_of w) (closes_adds h).plans_are (closes_adds h) served
 
   pub closes_told : result ≡ (shown v).is_open n
-  closes_told = by x
-    where
-      by : Closes n v w result → result ≡ is_open_conn n v
-      by (absent none r w_is) = r ∙ sym (shut_absent n v none)
-      by (shut k k_is off r w_is) = r ∙ sym (shut_there n v k k_is off)
-      by (closes k k_is still r m w_is) = r ∙ sym (open_there n v k s k_is still)
+  closes_told = grind (arith, nat_tests, shut_absent, shut_there, open_there)
 
   pub closes_keeps : KeepsBut (λ c. c == n) (λ c. false) [] v w
   closes_keeps = closing_keeps n v w result x s
@@ -293,6 +261,3 @@ module _ (n : ℕ) (v w : GatewayValue) (reply : Option ReplyValue) (t : TakesRe
 
 pub wanted_is : (id : CallId) (v : GatewayValue) → IsServing v → IsWanted id v (is_some (call_in id v).live)
 wanted_is id v s = wanted_told id v s (is_some (call_in id v).live) refl
-
-pub few_calls : (v : GatewayValue) → IsServing v → HasFewCalls v
-few_calls v s c k k_is whole = let x = if_open_some (conn_of c v) k k_is in (s.each c k x.0).few_calls x.1 whole

@@ -1,13 +1,7 @@
 -- A moment ends a call exactly if it has reached the least deadline.
-use Rattle.std.proofs.Common.{◌≡◌, ℕ, true, false, List, [], ◌∷◌, Option, None, Some, refl, sym, ap, ◌∙◌, ⊎_elim}
-use Rattle.std.specs.Prelude.{◌||◌, is_some}
-use Rattle.std.proofs.lemmas.Bool.{cases_Bool}
-use Rattle.gateway_model.specs.Past.{is_due, least_of, smaller}
-use Rattle.gateway_theory.specs.declared.trigger.Trigger.TheVariants.{Reached}
-use Rattle.gateway_theory.specs.Ends.{ended_call}
-use Rattle.gateway_theory.specs.Values.{KeptValue, Live}
+use Rattle.std.specs.Prelude.{◌≡◌, ◌∷◌, ◌||◌}
+use Rattle.gateway_theory.specs.lemmas.Names.{ℕ, true, false, List, [], Option, None, Some, refl, sym, ap, ◌∙◌, ⊎_elim, is_some, cases_Bool, is_due, least_of, smaller, Reached, ended_call, KeptValue, Live, deadlines_in}
 use Rattle.gateway_theory.specs.Least.{deadline_of, ends_any, least_deadline}
-use Rattle.gateway_theory.specs.Step.{deadlines_in}
 use Rattle.gateway_theory.specs.lemmas.Deadlines.{due_smaller}
 
 one_ends : (moment : ℕ) (k : KeptValue) → is_some (ended_call (Reached moment) k.id k.call).reply ≡ is_due moment (deadline_of k)

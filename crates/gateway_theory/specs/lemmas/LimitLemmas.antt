@@ -1,12 +1,6 @@
 -- No call has more branches out than its plan's limit.
-use Rattle.std.proofs.Common.{◌≡◌, ℕ, zero, suc, ◌+◌, ◌≤◌, ◌<◌, min, Bool, true, false, List, [], ◌∷◌, Option, None, Some, refl, sym, ap, ◌∙◌, arith, length, ⊎_elim}
-use Rattle.std.specs.Prelude.{is_none, ◌&&◌, ◌||◌, not, ◌==◌, nat_lt}
-use Rattle.std.specs.Option.{option_or, option_map_or}
-use Rattle.std.proofs.lemmas.Bool.{cond_both, cases_Bool, cases_eq, cases_lt, ltb-true, ltb-false, lt-ltb, le-ltb, eqb-true, eq-eqb, ne_eqb, and_parts}
-use Rattle.gateway_model.specs.declared.id.CallId.{CallId}
-use Rattle.connect_codec.specs.declared.answer.Outcome.TheVariants.{Answer, Fail}
-use Rattle.gateway_model.specs.Occurrence.{Occurrence, Opening, Comes, HangUp, Moment, Result, Drain, Closing, Break}
-use Rattle.gateway_model.specs.Past.{Mark, Past, ArrivedCall, call, answers, branches, began, started, is_out, is_result_of, is_answer_to, is_call, count_below, outs, counts, can_be_decided, mark_of, marked, asked_now, ends_at_arrival}
+use Rattle.std.specs.Prelude.{◌≡◌, ◌+◌, ◌≤◌, ◌<◌, ◌∷◌, ◌&&◌, ◌||◌, ◌==◌}
+use Rattle.gateway_theory.specs.lemmas.Names.{ℕ, zero, suc, min, Bool, true, false, List, [], Option, None, Some, refl, sym, ◌∙◌, arith, length, ⊎_elim, nat_tests, is_none, not, nat_lt, option_or, option_map_or, cond_both, cases_Bool, ltb-true, ltb-false, lt-ltb, le-ltb, eqb-true, eq-eqb, ne_eqb, and_parts, CallId, Answer, Fail, Occurrence, Opening, Comes, HangUp, Moment, Result, Drain, Closing, Break, Mark, Past, ArrivedCall, call, answers, branches, began, started, is_out, is_result_of, is_answer_to, is_call, count_below, outs, counts, can_be_decided, mark_of, marked, asked_now, ends_at_arrival}
 use Rattle.gateway_theory.specs.lemmas.PastLemmas.{call_stays}
 use Rattle.gateway_theory.specs.lemmas.Cases.{and_false as and_no, or_true as or_yes}
 
@@ -14,11 +8,7 @@ use Rattle.gateway_theory.specs.lemmas.Cases.{and_false as and_no, or_true as or
 
 pub count_less : (n : ℕ) (p q : ℕ → Bool) → ((i : ℕ) → i < n → p i ≡ true → q i ≡ true) → count_below n p ≤ count_below n q
 count_less zero p q h = omega arith
-count_less (suc n) p q h =
-    let rest : count_below n p ≤ count_below n q = count_less n p q (λ i lt. h i (omega (arith, lt))) in
-    cond_both (p n) (suc (count_below n p)) (count_below n p) (λ k. k ≤ count_below (suc n) q)
-    (λ yes. rw (h n (omega arith) yes) (omega (arith, rest)))
-    (λ no. cond_both (q n) (suc (count_below n q)) (count_below n q) (λ k. count_below n p ≤ k) (λ _. omega (arith, rest)) (λ _. rest))
+count_less (suc n) p q h = grind (arith, count_less n p q)
 
 count_none : (n : ℕ) (p : ℕ → Bool) → ((i : ℕ) → i < n → p i ≡ false) → count_below n p ≡ 0
 count_none zero p h = refl
@@ -27,46 +17,16 @@ count_none (suc n) p h = rw (h n (omega arith)) (count_none n p (λ i lt. h i (o
 -- one number is one at most
 count_one : (n s : ℕ) → count_below n (λ i. i == s) ≤ 1
 count_one zero s = omega arith
-count_one (suc n) s =
-    cond_both (n == s) (suc (count_below n (λ i. i == s))) (count_below n (λ i. i == s)) (λ k. k ≤ 1)
-    (λ yes.
-    let none : count_below n (λ i. i == s) ≡ 0 = count_none n (λ i. i == s) (λ i lt. ne_eqb i s (λ e. omega (arith, lt, e, eqb-true n s yes))) in
-    omega (arith, none))
-    (λ no. count_one n s)
+count_one (suc n) s = grind (arith, nat_tests, count_one n s, count_none, ne_eqb, eqb-true)
 
 count_or : (n : ℕ) (p q r : ℕ → Bool) → ((i : ℕ) → i < n → p i ≡ true → (q i || r i) ≡ true) → count_below n p ≤ count_below n q + count_below n r
 count_or zero p q r h = omega arith
-count_or (suc n) p q r h =
-    let rest : count_below n p ≤ count_below n q + count_below n r = count_or n p q r (λ i lt. h i (omega (arith, lt))) in
-    cond_both (p n) (suc (count_below n p)) (count_below n p) (λ k. k ≤ count_below (suc n) q + count_below (suc n) r)
-    (λ yes.
-    cond_both (q n) (suc (count_below n q)) (count_below n q) (λ k. suc (count_below n p) ≤ k + count_below (suc n) r)
-    (λ _. cond_both (r n) (suc (count_below n r)) (count_below n r) (λ k. suc (count_below n p) ≤ suc (count_below n q) + k)
-    (λ _. omega (arith, rest)) (λ _. omega (arith, rest)))
-    (λ not_q.
-    let so : r n ≡ true = rw not_q at (h n (omega arith) yes) in
-    rw so (omega (arith, rest))))
-    (λ _.
-    cond_both (q n) (suc (count_below n q)) (count_below n q) (λ k. count_below n p ≤ k + count_below (suc n) r)
-    (λ _. cond_both (r n) (suc (count_below n r)) (count_below n r) (λ k. count_below n p ≤ suc (count_below n q) + k)
-    (λ _. omega (arith, rest)) (λ _. omega (arith, rest)))
-    (λ _. cond_both (r n) (suc (count_below n r)) (count_below n r) (λ k. count_below n p ≤ count_below n q + k)
-    (λ _. omega (arith, rest)) (λ _. rest)))
+count_or (suc n) p q r h = grind (arith, count_or n p q r)
 
 -- without one of them there is one fewer
 pub count_without : (n j : ℕ) (q : ℕ → Bool) → j < n → q j ≡ true → suc (count_below n (λ i. q i && not (i == j))) ≤ count_below n q
 count_without zero j q lt has = absurd (omega arith)
-count_without (suc n) j q lt has =
-    ⊎_elim (λ (here : n ≡ j).
-    let there : q n ≡ true = rw here has in
-    let less : count_below n (λ i. q i && not (i == j)) ≤ count_below n q = count_less n (λ i. q i && not (i == j)) q (λ i _ e. (and_parts (q i) (not (i == j)) e).0) in
-    rw (there, eq-eqb n j here) (omega (arith, less)))
-    (λ (other : n ≡ j → ⊥).
-    let rest : suc (count_below n (λ i. q i && not (i == j))) ≤ count_below n q = count_without n j q (omega (arith, lt, other)) has in
-    cond_both (q n) (suc (count_below n q)) (count_below n q) (λ k. suc (count_below (suc n) (λ i. q i && not (i == j))) ≤ k)
-    (λ in_q. rw (in_q, ne_eqb n j other) (omega (arith, rest)))
-    (λ not_q. rw not_q rest))
-    (cases_eq n j)
+count_without (suc n) j q lt has = grind (arith, nat_tests, count_without n j q, count_less, and_parts, eq-eqb, ne_eqb)
 
 pub count_most : (n : ℕ) (p : ℕ → Bool) → count_below n p ≤ n
 count_most zero p = omega arith
@@ -75,24 +35,12 @@ count_most (suc n) p = cond_both (p n) (suc (count_below n p)) (count_below n p)
 -- those below s are s at most
 count_lt : (n s : ℕ) → count_below n (λ i. nat_lt i s) ≤ s
 count_lt zero s = omega arith
-count_lt (suc n) s =
-    ⊎_elim (λ (lt : n < s).
-    let all : count_below n (λ i. nat_lt i s) ≤ n = count_most n (λ i. nat_lt i s) in
-    rw (lt-ltb n s lt) (omega (arith, lt, all)))
-    (λ (le : s ≤ n). rw (le-ltb n s le) (count_lt n s))
-    (cases_lt n s)
+count_lt (suc n) s = grind (arith, nat_tests, count_lt n s, count_most, lt-ltb, le-ltb)
 
 -- ---- on the words
 
-abbrev call_named : ℕ → ℕ → CallId
-call_named conn request = record { conn = conn; request = request }
-
 pub same_call : (a b : CallId) → is_call a b ≡ true → a ≡ b
-same_call a b e =
-    let p = and_parts (a.conn == b.conn) (a.request == b.request) e in
-    let c : a.conn ≡ b.conn = eqb-true a.conn b.conn p.0 in
-    let r : a.request ≡ b.request = eqb-true a.request b.request p.1 in
-    ap (λ x. call_named x a.request) c ∙ ap (λ x. call_named b.conn x) r
+same_call a b e = grind arith
 
 some_of : (x : Option ArrivedCall) (c : ArrivedCall) → (d : ArrivedCall) × (option_or x (Some c) ≡ Some d)
 some_of None c = (c, refl)
@@ -111,10 +59,6 @@ began_called id (m ∷ past) e =
     (λ (now : began id past ≡ false). called_by id m past (asked_now id m past) refl (rw now at e))
     (cases_Bool (began id past))
 
-answers_grow : (id : CallId) (m : Mark) (past : Past) → answers id past ≤ answers id (m ∷ past)
-answers_grow id m past =
-    cond_both (m.counted && is_answer_to id m.what) (suc (answers id past)) (answers id past) (λ n. answers id past ≤ n) (λ _. omega arith) (λ _. omega arith)
-
 pub unbegun : (id : CallId) (past : Past) → began id past ≡ false → started id past ≡ 0
 unbegun id past e = rw e refl
 
@@ -126,23 +70,12 @@ began_stays : (id : CallId) (m : Mark) (past : Past) → began id past ≡ true 
 began_stays id m past e = rw e refl
 
 pub started_grows : (id : CallId) (m : Mark) (past : Past) → started id past ≤ started id (m ∷ past)
-started_grows id m past =
-    ⊎_elim (λ (before : began id past ≡ true).
-    let c = began_called id past before in
-    rw (begun id past c.0 before c.1, begun id (m ∷ past) c.0 (began_stays id m past before) (call_stays id m past c.0 c.1))
-    (omega (arith, answers_grow id m past)))
-    (λ (not_yet : began id past ≡ false). rw (unbegun id past not_yet) (omega arith))
-    (cases_Bool (began id past))
+started_grows id m past = grind arith
 
 -- a branch that is out has started
 pub out_started : (id : CallId) (i : ℕ) (past : Past) → is_out id i past ≡ true → i < started id past
 out_started id i [] e = absurd (cc)
-out_started id i (m ∷ past) e =
-    ⊎_elim (λ (lt : nat_lt i (started id past) ≡ true).
-    let l : i < started id past = ltb-true i (started id past) lt in
-    omega (arith, l, started_grows id m past))
-    (λ (ge : nat_lt i (started id past) ≡ false). ltb-true i (started id (m ∷ past)) (rw ge at e))
-    (cases_Bool (nat_lt i (started id past)))
+out_started id i (m ∷ past) e = grind (arith, nat_tests, ltb-true, started_grows)
 
 -- a result that counts is of a branch that is out
 answer_out : (id : CallId) (past : Past) (o : Occurrence) → (counts o past && is_answer_to id o) ≡ true
@@ -164,12 +97,7 @@ answer_out id past (Break c) e = absurd (cc)
 -- before a call begins no answer of it counts
 pub unanswered_next : (id : CallId) (past : Past) (o : Occurrence) → began id past ≡ false → answers id past ≡ 0
     → answers id (mark_of past o ∷ past) ≡ 0
-unanswered_next id past o unbegan none =
-    cond_both (counts o past && is_answer_to id o) (suc (answers id past)) (answers id past) (λ n. n ≡ 0)
-    (λ counted.
-    let j = answer_out id past o counted in
-    absurd (let lt : j.0 < started id past = out_started id j.0 past j.1 in omega (arith, lt, unbegun id past unbegan)))
-    (λ _. none)
+unanswered_next id past o unbegan none = grind (arith, nat_tests, answer_out, out_started, unbegun)
 
 pub unanswered : (id : CallId) (os : List Occurrence) → began id (marked os) ≡ false → answers id (marked os) ≡ 0
 unanswered id [] unbegan = refl
@@ -204,19 +132,7 @@ answers_one id m past =
 out_next : (id : CallId) (m : Mark) (past : Past) (i j : ℕ) → ((k : ℕ) → is_result_of id k m.what ≡ (j == k))
     → started id (m ∷ past) ≤ started id past + 1 → is_out id i (m ∷ past) ≡ true
     → ((is_out id i past && not (i == j)) || (i == started id past)) ≡ true
-out_next id m past i j results most e =
-    ⊎_elim (λ (lt : nat_lt i (started id past) ≡ true).
-    let both : (is_out id i past && not (is_result_of id i m.what)) ≡ true = rw lt at e in
-    let p = and_parts (is_out id i past) (not (is_result_of id i m.what)) both in
-    let other : not (j == i) ≡ true = rw (results i) at p.1 in
-    ⊎_elim (λ (same : i ≡ j). absurd (let here : not true ≡ true = rw (eq-eqb j i (sym same)) at other in cc))
-    (λ (ne : i ≡ j → ⊥). rw (p.0, ne_eqb i j ne) refl)
-    (cases_eq i j))
-    (λ (ge : nat_lt i (started id past) ≡ false).
-    let within : i < started id (m ∷ past) = ltb-true i (started id (m ∷ past)) (rw ge at e) in
-    let last : i ≡ started id past = omega (arith, within, most, ltb-false i (started id past) ge) in
-    rw (eq-eqb i (started id past) last) (or_yes (is_out id i past && not (i == j))))
-    (cases_Bool (nat_lt i (started id past)))
+out_next id m past i j results most e = grind (arith, nat_tests, and_parts, eq-eqb, ne_eqb, ltb-true, ltb-false, or_yes)
 
 -- an answer that counts frees one branch, and starts at most one
 freed : (id : CallId) (m : Mark) (past : Past) (c : ArrivedCall) → began id past ≡ true → call id past ≡ Some c
@@ -238,22 +154,7 @@ freed id m past c began_is c_is j out results =
 -- where no answer counts, no branch comes out
 no_more : (id : CallId) (m : Mark) (past : Past) (c : ArrivedCall) → began id past ≡ true → call id past ≡ Some c
     → (m.counted && is_answer_to id m.what) ≡ false → outs id (m ∷ past) ≤ outs id past
-no_more id m past c began_is c_is none =
-    let n : ℕ = length c.plan.branches in
-    let same_n : branches id (m ∷ past) ≡ n = rw (call_stays id m past c c_is) refl in
-    let old_n : branches id past ≡ n = rw c_is refl in
-    let same_answers : answers id (m ∷ past) ≡ answers id past = rw none refl in
-    let same_s : started id (m ∷ past) ≡ started id past =
-    rw (begun id past c began_is c_is, begun id (m ∷ past) c (began_stays id m past began_is) (call_stays id m past c c_is), same_answers) refl in
-    rw (same_n, old_n)
-    (count_less n (λ i. is_out id i (m ∷ past)) (λ i. is_out id i past) (λ i lt e.
-    ⊎_elim (λ (before : nat_lt i (started id past) ≡ true).
-    let both : (is_out id i past && not (is_result_of id i m.what)) ≡ true = rw before at e in
-    (and_parts (is_out id i past) (not (is_result_of id i m.what)) both).0)
-    (λ (later : nat_lt i (started id past) ≡ false).
-    let now : nat_lt i (started id (m ∷ past)) ≡ true = rw later at e in
-    absurd (let clash : nat_lt i (started id past) ≡ true = rw same_s at now in let no_way : true ≡ false = sym clash ∙ later in cc))
-    (cases_Bool (nat_lt i (started id past)))))
+no_more id m past c began_is c_is none = grind (arith, nat_tests, call_stays, begun, began_stays, count_less, and_parts)
 
 some_injective : (a b : ArrivedCall) → Some a ≡ Some b → a ≡ b
 some_injective a b e = cc

@@ -1,47 +1,15 @@
 -- The machine after an occurrence stands for it.
-use Rattle.std.proofs.Common.{◌≡◌, ℕ, zero, suc, ◌+◌, ◌≤◌, ◌<◌, Bool, false, List, [], ◌∷◌, ◌++◌, map, length, Option, None, Some, refl, sym, ap, ◌∙◌, arith, ⊎_elim}
-use Rattle.std.specs.Prelude.{◌==◌, nat_le}
-use Rattle.std.specs.Option.{option_or}
-use Rattle.std.proofs.lemmas.Bool.{cond_both, cases_lt}
-use Rattle.std.proofs.Math.ListN.{get_or-eq_default}
-use Rattle.gateway_model.specs.declared.id.CallId.{CallId}
-use Rattle.gateway_model.specs.Arrival.{Judged, Asks}
-use Rattle.gateway_model.specs.Occurrence.{Occurrence, Opening, Comes, HangUp, Moment, Result, Drain, Closing, Coming, Request, Refused, Break}
-use Rattle.gateway_model.specs.Past.{Mark, Past, call_id, arrivals, coming_on, coming_now, crowds, mark_of, most_calls, undecided_calls, is_broken}
-use Rattle.gateway_model.specs.declared.entry.ReplyEntry.{ReplyEntry}
-use Rattle.gateway_model.specs.Queue.{entry}
+use Rattle.std.specs.Prelude.{◌≡◌, ◌+◌, ◌≤◌, ◌<◌, ◌∷◌, ◌++◌}
+use Rattle.gateway_theory.specs.lemmas.Names.{ℕ, zero, suc, Bool, false, List, [], map, length, Option, None, Some, refl, sym, ap, ◌∙◌, arith, ⊎_elim, nat_tests, nat_le, option_or, cases_lt, get_or-eq_default, CallId, Occurrence, Comes, Coming, Mark, Past, call_id, arrivals, coming_now, crowds, mark_of, most_calls, undecided_calls, ReplyEntry, entry, kept, step, Live, call_state, arrive, slot_at, is_coming, SlotsStand}
 use Rattle.gateway_theory.specs.lemmas.Unborn.{unborn}
-use Rattle.gateway_theory.specs.Step.{kept, step}
-use Rattle.gateway_theory.specs.Values.{Live, call_state}
-use Rattle.gateway_theory.specs.Begins.{arrive}
-use Rattle.gateway_theory.specs.Machine.{slot_at, is_coming}
-use Rattle.gateway_theory.specs.Standing.{SlotsStand}
 
 -- ---- nothing comes on a stream
 
 pub no_entering : (id : CallId) (o : Occurrence) (past : Past) → is_coming o ≡ false → coming_now id (mark_of past o) past ≡ None
-no_entering id o past e =
-    cond_both (arrivals id.conn past == id.request) (coming_on id.conn o (is_broken id.conn past)) None (λ x. x ≡ None) (λ _. by_each o e) (λ _. refl)
-  where
-    by_each : (o : Occurrence) → is_coming o ≡ false → coming_on id.conn o (is_broken id.conn past) ≡ None
-    by_each (Comes c x) e = absurd (cc)
-    by_each Opening e = refl
-    by_each (HangUp c) e = refl
-    by_each (Moment t) e = refl
-    by_each (Result of i r) e = refl
-    by_each Drain e = refl
-    by_each (Closing c) e = refl
-    by_each (Break c) e = refl
+no_entering id o past e = grind arith
 
 pub arrivals_same : (c : ℕ) (o : Occurrence) (past : Past) → is_coming o ≡ false → arrivals c (mark_of past o ∷ past) ≡ arrivals c past
-arrivals_same c (Comes d x) past e = absurd (cc)
-arrivals_same c Opening past e = refl
-arrivals_same c (HangUp d) past e = refl
-arrivals_same c (Moment t) past e = refl
-arrivals_same c (Result of i r) past e = refl
-arrivals_same c Drain past e = refl
-arrivals_same c (Closing d) past e = refl
-arrivals_same c (Break d) past e = refl
+arrivals_same c o past h3 = grind (arith, nat_tests)
 
 -- what is behind the requests that came has no entry
 pub no_entry_yet : (c k : ℕ) (past : Past) → arrivals c past ≤ k → entry (call_id c k) past ≡ None
@@ -74,12 +42,8 @@ each_slot (e ∷ taken) old new r size each (suc k) lt =
 -- whether a call is one too many matters only where one is asked for
 pub crowd_is : (c : ℕ) (x : Coming) (full : Bool) (past : Past) (moment : ℕ) (drained : Bool) (id : CallId)
     → full ≡ nat_le most_calls (undecided_calls c past) → arrive moment drained full id x ≡ arrive moment drained (crowds (Comes c x) past) id x
-crowd_is c (Refused r) full past moment drained id e = refl
-crowd_is c (Request q (Judged v)) full past moment drained id e = refl
-crowd_is c (Request q (Asks plan t rid)) full past moment drained id e = ap (λ b. arrive moment drained b id (Request q (Asks plan t rid))) e
+crowd_is c x full past moment drained id h7 = grind (arith, nat_tests)
 
 pub kept_by_entry : (moment : ℕ) (id : CallId) (c : ℕ) (x : Coming) (out : List Bool) (live : Option Live) → step moment id (Comes c x) (call_state out live) ≡ kept (call_state out live)
 kept_by_entry moment id c x out None = refl
 kept_by_entry moment id c x out (Some l) = refl
-
--- ---- what is handed out

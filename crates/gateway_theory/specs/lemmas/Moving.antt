@@ -1,30 +1,7 @@
 -- What is not kept any more leaves what stands, and what one connection's step makes of all.
-use Rattle.std.proofs.Common.{◌≡◌, ℕ, Bool, true, false, List, ◌∷◌, ◌++◌, length, None, refl, sym, ap, ◌∙◌, subst, arith, zero, suc, ◌<◌, [], Option, Some}
-use Rattle.std.specs.Prelude.{◌&&◌, not, nat_lt, ◌==◌, ◌||◌, All, if◌then◌else◌, slice_index_or}
-use Rattle.gateway_model.specs.declared.entry.ReplyEntry.{ReplyEntry}
-use Rattle.gateway_model.specs.declared.event.Event.{Event}
-use Rattle.gateway_model.specs.Breaks.{by_events}
-use Rattle.gateway_model.specs.Events.{Before, Occurs}
-use Rattle.gateway_model.specs.History.{History}
-use Rattle.gateway_model.specs.Job.{JobValue}
-use Rattle.gateway_model.specs.Occurrence.{Occurrence}
-use Rattle.gateway_model.specs.Own.{own}
-use Rattle.gateway_model.specs.Starts.{Placed, occurrences}
-use Rattle.gateway_theory.specs.Step.{has_out}
-use Rattle.gateway_theory.specs.lemmas.Cases.{and_false}
-use Rattle.gateway_theory.specs.Connection.{AllStand, ConnectionStands, forgets, next, is_shut_value}
-use Rattle.gateway_theory.specs.Values.{ConnectionValue, is_open_value, not_kept, KeptValue, call_at, GatewayValue, conn_of, connection, value_of, HeldConnection, connection_of}
-use Rattle.gateway_theory.specs.Core.{Adds, CoreValue, HasConns, Lives, StreamStands, StreamValue, at_place, then_came}
+use Rattle.std.specs.Prelude.{◌≡◌, ◌∷◌, ◌++◌, ◌<◌, ◌&&◌, ◌==◌, ◌||◌, if◌then◌else◌}
+use Rattle.gateway_theory.specs.lemmas.Names.{ℕ, Bool, true, false, List, length, None, refl, sym, ap, ◌∙◌, subst, arith, zero, suc, [], Option, Some, nat_tests, not, All, slice_index_or, ReplyEntry, Event, by_events, Before, Occurs, History, JobValue, Occurrence, own, Placed, occurrences, has_out, AllStand, ConnectionStands, forgets, is_shut_value, ConnectionValue, not_kept, KeptValue, call_at, GatewayValue, conn_of, connection, value_of, HeldConnection, connection_of, Adds, CoreValue, HasConns, Lives, at_place, then_came, list_any, eqb-true, lt-ltb, is_call, CallId, no_call, core_of, stream_of, Holds, is_gone, left_of, stream_in, IsServing, Moves}
 use Rattle.gateway_theory.specs.lemmas.Standing.{call_forgotten, connection_forgotten}
-use Rattle.std.specs.List.{list_any}
-use Rattle.std.proofs.lemmas.Bool.{eqb-true, lt-ltb}
-use Rattle.gateway_model.specs.Past.{call_id, is_call}
-use Rattle.gateway_model.specs.declared.id.CallId.{CallId}
-use Rattle.gateway_theory.specs.Store.{no_call}
-use Rattle.gateway_theory.specs.Gateway.{core_of, stream_of}
-use Rattle.gateway_theory.specs.Held.{Holds, has_out_in, is_gone, left_of, stream_in}
-use Rattle.gateway_theory.specs.Serving.{IsServing}
-use Rattle.gateway_theory.specs.Steps.{Moves}
 
 -- of that connection a call is not kept any more, or it is not kept itself
 pub data FadesTo (v w : ConnectionValue) : Type 0 where
@@ -48,72 +25,11 @@ fades_stands v w taken os (call_fades r dead back is) s = subst (λ x. Connectio
 fades_stands v w taken os (conn_fades shut dead back is) s = subst (λ x. ConnectionStands x taken os) (sym is) (connection_forgotten v taken os shut dead back s)
 
 fades_number : (v w : ConnectionValue) → FadesTo v w → w.number ≡ v.number
-fades_number v w (same is) = ap (λ (x : ConnectionValue). x.number) is
-fades_number v w (call_fades r dead back is) = ap (λ (x : ConnectionValue). x.number) is
-fades_number v w (conn_fades shut dead back is) = ap (λ (x : ConnectionValue). x.number) is
-
--- its stream stands
-module _ (opened : List ℕ) (events : Before) (count c : ℕ) where
-  closed_stands : (v w : ConnectionValue) (s t : StreamValue) → v.closed ≡ true → w.closed ≡ true → StreamStands opened events count c v s → StreamStands opened events count c w t
-  closed_stands v w s t shut now h = record {
-    unopened = λ unborn. absurd (let clash : false ≡ true = sym (h.unopened unborn).1 ∙ shut in cc);
-    open_is = h.open_is ∙ ap (λ b. nat_lt c count && not b) (shut ∙ sym now);
-    hung_is = λ there on. absurd (let clash : true ≡ false = sym there ∙ off in cc);
-    has_come = λ there on. absurd (let clash : true ≡ false = sym there ∙ off in cc);
-  }
-    where
-      off : is_open_value count c w ≡ false
-      off = ap (λ b. nat_lt c count && not b) now ∙ and_false (nat_lt c count)
-
-  still_stands : (v w : ConnectionValue) (s t : StreamValue) → v.closed ≡ false → t ≡ s → next w ≡ next v → w.closed ≡ v.closed → w.broken ≡ v.broken → w.taken ≡ v.taken → w.slots ≡ v.slots
-      → StreamStands opened events count c v s → StreamStands opened events count c w t
-  still_stands v w s t still stream_is next_is closed_is broken_is taken_is slots_are h = subst (λ x. StreamStands opened events count c w x) (sym stream_is) (record {
-    unopened = λ unborn. let u = h.unopened unborn in (next_is ∙ u.0, closed_is ∙ u.1);
-    open_is = h.open_is ∙ sym (ap (λ b. nat_lt c count && not b) closed_is);
-    hung_is = λ there whole. h.hung_is (sym (ap (λ b. nat_lt c count && not b) closed_is) ∙ there) (sym broken_is ∙ whole);
-    has_come = λ there heard.
-        let come = h.has_come (sym (ap (λ b. nat_lt c count && not b) closed_is) ∙ there) (ap (λ b. not b && not s.hung_up) (sym broken_is) ∙ heard) in
-        record { given = come.given; reads = come.reads; settled = come.settled; came = next_is ∙ come.came };
-  })
-
-  broken_stands : (v w : ConnectionValue) (s t : StreamValue) → v.broken ≡ true → next w ≡ next v → w.closed ≡ v.closed → w.broken ≡ v.broken → StreamStands opened events count c v s → StreamStands opened events count c w t
-  broken_stands v w s t broke next_is closed_is broken_is h = record {
-    unopened = λ unborn. let u = h.unopened unborn in (next_is ∙ u.0, closed_is ∙ u.1);
-    open_is = h.open_is ∙ sym (ap (λ b. nat_lt c count && not b) closed_is);
-    hung_is = λ there whole. absurd (let clash : true ≡ false = sym (broken_is ∙ broke) ∙ whole in cc);
-    has_come = λ there heard. absurd (let clash : false ≡ true = sym (ap (λ b. not b && not t.hung_up) (broken_is ∙ broke)) ∙ heard in cc);
-  }
-
-  -- whether it is closed, or broken
-  by_shut : (v w : ConnectionValue) (s t : StreamValue) → (v.closed ≡ true → StreamStands opened events count c w t) → (v.closed ≡ false → v.broken ≡ true → StreamStands opened events count c w t)
-      → (is_shut_value v ≡ false → v.closed ≡ false → StreamStands opened events count c w t) → StreamStands opened events count c w t
-  by_shut v w s t if_closed if_broken else_now = by v.closed v.broken refl refl
-    where
-      by : (a b : Bool) → v.closed ≡ a → v.broken ≡ b → StreamStands opened events count c w t
-      by true b a_is b_is = if_closed a_is
-      by false true a_is b_is = if_broken a_is b_is
-      by false false a_is b_is = else_now (rw (a_is, b_is) refl) a_is
-
-  fades_stream : (v w : ConnectionValue) (s t : StreamValue) → FadesTo v w → (is_shut_value v ≡ false → t ≡ s) → StreamStands opened events count c v s → StreamStands opened events count c w t
-  fades_stream v w s t (same is) at h = by_shut v w s t
-      (λ off. closed_stands v w s t off (ap (λ (x : ConnectionValue). x.closed) is ∙ off) h)
-      (λ still off. broken_stands v w s t off (ap next is) (ap (λ (x : ConnectionValue). x.closed) is) (ap (λ (x : ConnectionValue). x.broken) is) h)
-      (λ on still. subst (λ x. StreamStands opened events count c x t) (sym is) (subst (λ y. StreamStands opened events count c v y) (sym (at on)) h))
-  fades_stream v w s t (call_fades r dead back is) at h = by_shut v w s t
-      (λ off. closed_stands v w s t off (ap (λ (x : ConnectionValue). x.closed) is ∙ off) h)
-      (λ still off. broken_stands v w s t off (ap next is) (ap (λ (x : ConnectionValue). x.closed) is) (ap (λ (x : ConnectionValue). x.broken) is) h)
-      (λ on still. still_stands v w s t still (at on) (ap next is) (ap (λ (x : ConnectionValue). x.closed) is) (ap (λ (x : ConnectionValue). x.broken) is)
-      (ap (λ (x : ConnectionValue). x.taken) is) (ap (λ (x : ConnectionValue). x.slots) is) h)
-  fades_stream v w s t (conn_fades shut dead back is) at h = closed_stands v w s t shut (ap (λ (x : ConnectionValue). x.closed) is) h
+fades_number v w h2 = grind (arith, nat_tests)
 
 module _ (v w : CoreValue) (f : Fades v w) where
   pub fades_conns : (opened : List ℕ) (events : Before) → HasConns v opened events → HasConns w opened events
-  fades_conns opened events h = record {
-    below = h.below;
-    count_is = h.count_is ∙ sym f.opened_is;
-    each = λ c. subst (λ n. StreamStands opened events n c (w.conns c) (w.streams c)) (sym f.opened_is)
-        (fades_stream opened events v.opened c (v.conns c) (w.conns c) (v.streams c) (w.streams c) (f.conns_are c) (f.streams_are c) (h.each c));
-  }
+  fades_conns opened events h = grind arith
 
   fades_all : (taken : ℕ → List ReplyEntry) (handed : List JobValue) (os : List Occurrence) → AllStand v.now v.conns taken handed v.waiting os → AllStand w.now w.conns taken handed w.waiting os
   fades_all taken handed os h =
@@ -150,8 +66,7 @@ dead_call id [] a = refl
 dead_call id (c ∷ calls) a = by (is_call c.id id) (a 0 no_call (omega arith)) (dead_call id calls (λ i d lt. a (suc i) d (omega (arith, lt))))
   where
     by : (b : Bool) → c.call.live ≡ None → (call_at id calls).live ≡ None → (if b then c.call else call_at id calls).live ≡ None
-    by true here rest = here
-    by false here rest = rest
+    by b h1 h2 = grind (arith, nat_tests)
 
 or_parts : (a b : Bool) → (a || b) ≡ false → (a ≡ false) × (b ≡ false)
 or_parts false b e = (refl, e)
@@ -170,24 +85,14 @@ out_of_none id i (c ∷ calls) e =
     by (is_call c.id id) (none_out c.call.out i parts.0) (out_of_none id i calls parts.1)
   where
     by : (b : Bool) → has_out c.call i ≡ false → has_out (call_at id calls) i ≡ false → has_out (if b then c.call else call_at id calls) i ≡ false
-    by true here rest = here
-    by false here rest = rest
+    by b h1 h2 = grind (arith, nat_tests)
 
 gone_parts : (a b : Bool) → (a && not b) ≡ true → (a ≡ true) × (b ≡ false)
-gone_parts true false e = (refl, refl)
-gone_parts true true e = absurd (cc)
-gone_parts false b e = absurd (cc)
+gone_parts a b h2 = grind (arith, nat_tests)
 
 -- what stays under its number is it, or nothing, once it is gone
 pub left_fades : (opened c : ℕ) (l : HeldConnection) → Holds l → l.number ≡ c → c < opened → FadesTo (connection_of l) (value_of opened c (left_of l))
-left_fades opened c l h its born = by (is_gone l) refl
-  where
-    by : (b : Bool) → is_gone l ≡ b → FadesTo (connection_of l) (value_of opened c (left_of l))
-    by false here = same (ap (λ b. value_of opened c (if b then None else Some l)) here)
-    by true gone =
-        let parts = gone_parts l.closed (has_out_in l) gone in
-        conn_fades parts.0 (λ r. dead_call (call_id l.number r) l.calls (h.dead (ap (λ b. b || l.broken) parts.0))) (λ r i. out_of_none (call_id l.number r) i l.calls parts.1)
-        (ap (λ b. value_of opened c (if b then None else Some l)) gone ∙ ap (λ b. not_kept b c) (lt-ltb c opened born) ∙ ap (λ n. not_kept true n) (sym its))
+left_fades opened c l h its born = grind (arith, nat_tests, gone_parts, dead_call, out_of_none, lt-ltb)
 
 -- ---- the number of each
 
@@ -231,10 +136,7 @@ module _ (c : ℕ) (l : HeldConnection) (v w : GatewayValue) (u : CoreValue) (m 
       each d false ne = same (ap (λ n. value_of n d (conn_of d w)) b.opened_is ∙ ap (value_of v.opened d) (m.others d ne) ∙ sym (b.others_are d ne))
 
       stream : (d : ℕ) → is_shut_value (u.conns d) ≡ false → (x : Bool) → (c == d) ≡ x → stream_of (conn_of d w) ≡ u.streams d
-      stream d still true at =
-          let is = eqb-true c d at in
-          subst (λ n. stream_of (conn_of n w) ≡ u.streams n) is (ap stream_of m.here ∙ b.stream_is (ap (λ n. is_shut_value (u.conns n)) is ∙ still))
-      stream d still false ne = ap stream_of (m.others d ne) ∙ sym (b.streams_are d ne)
+      stream d h1 x h3 = grind (arith, nat_tests)
 
 -- it stays under its number, or is gone
 module _ (c : ℕ) (l : HeldConnection) (v w : GatewayValue) (u : CoreValue) (m : Moves c (left_of l) v w) (b : Became c l v w u) (holds : Holds l) (its : l.number ≡ c) (born : c < v.opened) where
@@ -257,8 +159,7 @@ module _ (c : ℕ) (l : HeldConnection) (v w : GatewayValue) (u : CoreValue) (m 
       each d false ne = same refl
 
       stream : (d : ℕ) → is_shut_value (u.conns d) ≡ false → (x : Bool) → (c == d) ≡ x → (if x then stream_in l else u.streams d) ≡ u.streams d
-      stream d still true at = let is = eqb-true c d at in b.stream_is (ap (λ n. is_shut_value (u.conns n)) is ∙ still) ∙ ap (λ n. u.streams n) is
-      stream d still false ne = refl
+      stream d h1 x h3 = grind (arith, nat_tests)
 
   from_midway : Fades midway (core_of w)
   from_midway = record {
@@ -277,14 +178,10 @@ module _ (c : ℕ) (l : HeldConnection) (v w : GatewayValue) (u : CoreValue) (m 
       each d false ne = same (ap (λ n. value_of n d (conn_of d w)) b.opened_is ∙ ap (value_of v.opened d) (m.others d ne) ∙ sym (b.others_are d ne))
 
       left_stream : (x : Bool) → is_gone l ≡ x → l.closed ≡ false → stream_of (left_of l) ≡ stream_in l
-      left_stream false here still = ap (λ y. stream_of (if y then None else Some l)) here
-      left_stream true gone still = absurd (let clash : true ≡ false = sym (gone_parts l.closed (has_out_in l) gone).0 ∙ still in cc)
+      left_stream x h1 h2 = grind (arith, nat_tests)
 
       stream : (d : ℕ) → is_shut_value (if c == d then connection_of l else u.conns d) ≡ false → (x : Bool) → (c == d) ≡ x → stream_of (conn_of d w) ≡ (if x then stream_in l else u.streams d)
-      stream d still true at =
-          ap (λ n. stream_of (conn_of n w)) (sym (eqb-true c d at)) ∙ ap stream_of m.here
-          ∙ left_stream (is_gone l) refl (or_parts l.closed l.broken (sym (ap (λ x. is_shut_value (if x then connection_of l else u.conns d)) at) ∙ still)).0
-      stream d still false ne = ap stream_of (m.others d ne) ∙ sym (b.streams_are d ne)
+      stream d h1 x h3 = grind (arith, nat_tests)
 
   pub left_adds : (opened : List ℕ) (e : Event) (h : History) (first : CoreValue) → Adds opened e h first u → Adds opened e h first (core_of w)
   left_adds opened e h first a = fades_adds midway (core_of w) from_midway opened e h first (fades_adds u midway to_midway opened e h first a)

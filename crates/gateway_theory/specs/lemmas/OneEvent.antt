@@ -1,11 +1,8 @@
 -- What one event more makes of the stream of a connection.
-use Rattle.std.proofs.Common.{◌≡◌, ℕ, suc, ◌<◌, true, false, List, [], ◌∷◌, ◌++◌, length, refl, ◌∙◌, arith}
-use Rattle.std.specs.Prelude.{not}
+use Rattle.std.specs.Prelude.{◌≡◌, ◌<◌, ◌∷◌, ◌++◌}
+use Rattle.gateway_theory.specs.lemmas.Names.{ℕ, true, false, List, [], length, refl, arith, nat_tests, not, lt-ltb, eq-eqb, and_left, Event, Piece, Before, connections, hung_up, is_closing_of, is_open, listens, stream, succeeds}
 use Rattle.std.proofs.Math.Bool.{and-true, or-false}
-use Rattle.std.proofs.lemmas.Bool.{lt-ltb, le-ltb, eq-eqb, and_left}
-use Rattle.gateway_model.specs.declared.event.Event.{Event}
-use Rattle.gateway_model.specs.declared.event.Event.TheVariants.{Opening, Piece, HangUp, Closing}
-use Rattle.gateway_model.specs.Events.{Before, connections, hung_up, is_closing_of, is_open, listens, stream, succeeds}
+use Rattle.gateway_model.specs.declared.event.Event.TheVariants.{Opening, HangUp, Closing}
 use Rattle.gateway_theory.specs.lemmas.Cases.{and_false, or_true}
 use Rattle.gateway_theory.specs.lemmas.ServedOpens.{unopened_shut as unborn_open, unopened_hung as unborn_hung, unopened_text as unborn_stream}
 
@@ -38,21 +35,13 @@ shut_deaf opened c es shut = and_left (is_open opened c es) (not (hung_up opened
 pub shut_hung : (opened : List ℕ) (c : ℕ) (e : Event) (es : Before) → is_open opened c es ≡ false → hung_up opened c (e ∷ es) ≡ hung_up opened c es
 shut_hung opened c e es shut = rw shut (or-false (hung_up opened c es))
 
--- ---- a connection that was not opened yet
-
 -- ---- one that opens
 
 pub born_hung : (opened : List ℕ) (es : Before) → hung_up opened (connections opened es) (Opening ∷ es) ≡ false
-born_hung opened es =
-    let c = connections opened es in
-    shut_hung opened c Opening es (unborn_open opened c es (omega arith)) ∙ unborn_hung opened c es (omega arith)
+born_hung opened es = grind (arith, nat_tests, shut_hung, unborn_open, unborn_hung)
 
 pub born_open : (opened : List ℕ) (es : Before) → succeeds opened (length es) ≡ true → is_open opened (connections opened es) (Opening ∷ es) ≡ true
-born_open opened es succeeds_here =
-    let c = connections opened es in
-    rw (le-ltb c c (omega arith), succeeds_here) (lt-ltb c (suc c) (omega arith))
+born_open opened es succeeds_here = grind arith
 
 pub born_stream : (opened : List ℕ) (es : Before) → stream opened (connections opened es) (Opening ∷ es) ≡ []
-born_stream opened es =
-    let c = connections opened es in
-    deaf_stream opened c Opening es (shut_deaf opened c es (unborn_open opened c es (omega arith))) ∙ unborn_stream opened c es (omega arith)
+born_stream opened es = grind (arith, nat_tests, deaf_stream, shut_deaf, unborn_open, unborn_stream)

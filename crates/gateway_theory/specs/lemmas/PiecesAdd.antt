@@ -1,40 +1,21 @@
 -- What bytes of a stream add, and at most one request of them.
-use Rattle.std.proofs.Common.{◌≡◌, ℕ, ◌+◌, ◌≤◌, Bool, true, false, List, [], ◌∷◌, ◌++◌, length, Option, None, Some, Result, Ok, Err, refl, sym, ap, ◌∙◌, subst, arith, append_assoc, map}
-use Rattle.std.specs.Prelude.{◌==◌, ◌&&◌, ◌||◌, MatchResult, if◌then◌else◌, not, option_to_list, take, IfOk, MatchBool}
-use Rattle.std.proofs.lemmas.Bool.{eq-eqb}
-use Rattle.std.proofs.lemmas.List.{append-nil}
-use Rattle.http_pieces.specs.Reader.{Done, HasRead, HasReadTo, Partial, ReaderValue, Reading, Stopped, Waiting, ending_after, is_over}
-use Rattle.http_pieces.specs.Request.{HttpRequest}
-use Rattle.http_pieces.specs.Requests.{Closed, Open, RefusedBy, Requests, StreamEnd}
-use Rattle.call_plan.specs.Plan.{PlanRecord}
-use Rattle.gateway_model.specs.Arrival.{Asks, Judged, arrival_of}
-use Rattle.gateway_model.specs.Events.{Gains, hung_up, is_open, listens, stream}
-use Rattle.gateway_model.specs.History.{History, after_event}
-use Rattle.gateway_model.specs.Job.{JobValue}
-use Rattle.gateway_model.specs.Occurrence.{Break, Coming, Comes, Refused, Request, Occurrence}
-use Rattle.gateway_model.specs.declared.event.Event.TheVariants.{Piece}
-use Rattle.gateway_theory.specs.Arrivals.{calls_in}
-use Rattle.gateway_theory.specs.RequestLaws.{RequestLaws}
-use Rattle.gateway_theory.specs.declared.fault.StepFault.{StepFault}
-use Rattle.gateway_theory.specs.lemmas.ServedPieces.{midway, none_gained, no_refusal, text_on, read_requests, Reads, ReadsTo, breaking, came_adds, not_fed_adds, over_reads, quiet_adds, read_adds, read_if, read_to, no_bytes, nothing_gained}
+use Rattle.std.specs.Prelude.{◌≡◌, ◌+◌, ◌≤◌, ◌∷◌, ◌++◌, ◌==◌, ◌&&◌, if◌then◌else◌}
+use Rattle.gateway_theory.specs.lemmas.Names.{ℕ, Bool, true, false, List, [], length, Option, None, Some, Ok, Err, refl, sym, ap, ◌∙◌, subst, arith, append_assoc, map, nat_tests, MatchResult, option_to_list, take, IfOk, MatchBool, eq-eqb, append-nil, Done, HasRead, HasReadTo, Partial, ReaderValue, Reading, Stopped, Waiting, is_over, HttpRequest, Closed, Open, RefusedBy, Requests, StreamEnd, PlanRecord, Gains, listens, stream, History, after_event, JobValue, Break, Coming, Comes, Occurrence, Piece, calls_in, RequestLaws, StepFault, arriving, entered, is_shut_value, now_of, stepped, went, ConnectionValue, is_open_value, GatewayValue, conn_of, connection, HeldConnection, connection_of, Adds, CoreValue, FedUpTo, HasConns, is_heard, is_waiting, HasCome, core_of, stream_of, Holds, ReadsOn, TakesBytes, arriving_in, begun_by, broke, broken_held, coming_of, dropped, entered_held, hears, not_fed, read, read_held, stream_in, unread, IsServing, Feeds, Moves, absent, there, TakesOne}
+use Rattle.std.proofs.Common.{Result}
+use Rattle.gateway_theory.specs.lemmas.ServedPieces.{midway, no_refusal, text_on, read_requests, Reads, ReadsTo, breaking, came_adds, not_fed_adds, over_reads, quiet_adds, read_adds, read_if, read_to, no_bytes, nothing_gained}
 use Rattle.gateway_theory.specs.lemmas.ServedLemmas.{hung_still, open_still, is_listening, text_still, stays_itself, stream_stays}
-use Rattle.gateway_theory.specs.Connection.{Stepped, arriving, entered, is_shut_value, now_of, step, stepped, went}
-use Rattle.gateway_theory.specs.Values.{ConnectionValue, is_open_value, GatewayValue, conn_of, connection, HeldConnection, connection_of}
-use Rattle.gateway_theory.specs.Core.{Adds, CoreValue, FedUpTo, HasConns, IsKnown, is_heard, is_waiting, HasCome}
-use Rattle.gateway_theory.specs.Gateway.{core_of, stream_of}
-use Rattle.gateway_theory.specs.Held.{Holds, ReadsOn, TakesBytes, arriving_in, begins_call, begun_by, broke, broken_held, came, coming_of, dropped, entered_held, hears, not_fed, read, read_held, stream_in, unread}
-use Rattle.gateway_theory.specs.Serving.{IsServing}
-use Rattle.gateway_theory.specs.Steps.{Feeds, Moves, absent, there}
+use Rattle.gateway_theory.specs.Connection.{Stepped, step}
+use Rattle.gateway_theory.specs.Core.{IsKnown}
+use Rattle.gateway_theory.specs.Held.{came}
 use Rattle.gateway_theory.specs.lemmas.Broadcast.{all_broken}
 use Rattle.gateway_theory.specs.lemmas.Conns.{there_value}
-use Rattle.gateway_theory.specs.lemmas.Events.{MayAll, piece_may, none_adds}
+use Rattle.gateway_theory.specs.lemmas.Events.{piece_may, none_adds}
 use Rattle.gateway_theory.specs.lemmas.Moving.{fades_adds, same, Became, became_fades}
 use Rattle.gateway_theory.specs.lemmas.BroadcastAdds.{deaf_absent, heard_there, hears_both}
 use Rattle.gateway_theory.specs.lemmas.HeldSteps.{given_then, hears_parts, one_if}
 use Rattle.gateway_theory.specs.lemmas.HeldValues.{broken_value, entered_value}
 use Rattle.gateway_theory.specs.lemmas.ServedJoins.{adds_joined, fed_more}
 use Rattle.gateway_theory.specs.lemmas.EventLemmas.{gains_unique}
-use Rattle.gateway_theory.specs.Told.{TakesOne}
 use Rattle.gateway_theory.specs.lemmas.Events as event_lemmas
 
 -- so many bytes were taken
@@ -53,15 +34,7 @@ one_long (Some x) = refl
 module _ (plans : List PlanRecord) (n : ℕ) (bytes text : List ℕ) (given : List HttpRequest) (left : List ℕ) (was : Requests 0 text given (Open left)) where
   gains_of : (request : Option HttpRequest) (old new : ReaderValue) → ReadsOn n request bytes old new → HasRead old text given
       → Gains plans text (text ++ take n bytes) (option_to_list (coming_of plans request new.reading))
-  gains_of (Some q) old new r h = record {
-    given = given;
-    more = q ∷ [];
-    ending = Open left;
-    later = ending_after q;
-    text_is = was;
-    longer_is = subst (λ x. HasReadTo x (text ++ take n bytes) given) r.gives.waited (r.reads.reads text given h).reads;
-    gained_is = ap (λ xs. Request q (arrival_of plans q) ∷ xs) (sym (none_gained q left));
-  }
+  gains_of (Some q) old new r h = grind arith
   gains_of None old new r h = by new.reading refl
     where
       now_read : HasRead new (text ++ take n bytes) given
@@ -113,21 +86,12 @@ reads_to plans n bytes request old new r going settled = λ text given h.
 
 -- no more calls begin than come
 begun_few : (moment : ℕ) (drained : Bool) (x : Coming) (k : HeldConnection) → begun_by (arriving_in moment drained x k) ≤ calls_in x
-begun_few moment drained (Refused r) k = omega arith
-begun_few moment drained (Request q (Judged verdict)) k = omega arith
-begun_few moment drained (Request q (Asks plan timeout id)) k = by (begins_call (arriving_in moment drained (Request q (Asks plan timeout id)) k))
-  where
-    by : (b : Bool) → (if b then 1 else 0) ≤ 1
-    by true = omega arith
-    by false = omega arith
+begun_few moment drained x k = grind (arith, nat_tests)
 
 -- ---- bytes that the connection of that number takes
 
 module _ (laws : RequestLaws) (number : ℕ) (bytes : List ℕ) (v w : GatewayValue) (s : IsServing v) (k l : HeldConnection) (k_is : conn_of number v ≡ Some k) (m : Moves number (Some l) v w)
     (jobs : List JobValue) (w_is : w ≡ record v { conns = w.conns; jobs = v.jobs ++ jobs; begun = w.begun }) (on : hears k ≡ true) where
-  number_is : k.number ≡ number
-  number_is = (s.each number k k_is).number_is
-
   value_is : connection number v ≡ connection_of k
   value_is = there_value number v k k_is
 
@@ -146,18 +110,7 @@ module _ (laws : RequestLaws) (number : ℕ) (bytes : List ℕ) (v w : GatewayVa
   became : (u : CoreValue) → u.plans ≡ v.plans → u.now ≡ (core_of v).now → u.opened ≡ v.opened → u.begun ≡ w.begun → u.waiting ≡ v.jobs ++ jobs → u.conns number ≡ connection_of l
       → ((d : ℕ) → (number == d) ≡ false → u.conns d ≡ connection d v) → (is_shut_value (u.conns number) ≡ false → stream_in l ≡ u.streams number)
       → ((d : ℕ) → (number == d) ≡ false → u.streams d ≡ stream_of (conn_of d v)) → Became number l v w u
-  became u plans now opened begun waiting here others stream streams = record {
-    plans_are = ap (λ (x : GatewayValue). x.plans) w_is ∙ sym plans;
-    now_is = ap (λ (x : GatewayValue). now_of x.moment x.drained) w_is ∙ sym now;
-    opened_is = ap (λ (x : GatewayValue). x.opened) w_is;
-    opened_was = opened;
-    begun_is = sym begun;
-    jobs_are = ap (λ (x : GatewayValue). x.jobs) w_is ∙ sym waiting;
-    conn_is = same (sym here);
-    others_are = others;
-    stream_is = stream;
-    streams_are = streams;
-  }
+  became u plans now opened begun waiting here others stream streams = grind arith
 
   -- it breaks: what it brought does not count
   pub broke_adds : (q : List ℕ) (h : History) → connection_of l ≡ connection_of (broken_held k) → jobs ≡ [] → w.begun ≡ v.begun → Adds h.opened (Piece number q) h (core_of v) (core_of w)
@@ -169,18 +122,13 @@ module _ (laws : RequestLaws) (number : ℕ) (bytes : List ℕ) (v w : GatewayVa
       (quiet_adds number q h (core_of v) (number ∷ []) (listens_now h) (λ c. broke_now) (piece_may h (core_of v) number goes_on q parts.0 parts.1))
     where
       broke_is : all_broken (core_of v).now (number ∷ []) (core_of v).conns number ≡ went (core_of v).now (Break k.number) (connection_of k)
-      broke_is = ap (λ b. if b then went (core_of v).now (Break number) (connection number v) else connection number v) (eq-eqb number number refl)
-          ∙ ap (λ x. went (core_of v).now (Break number) x) value_is ∙ ap (λ n. went (core_of v).now (Break n) (connection_of k)) (sym number_is)
+      broke_is = grind (arith, nat_tests)
 
       broke_now : (all_broken (core_of v).now (number ∷ []) (core_of v).conns number).broken ≡ true
       broke_now = ap (λ (x : ConnectionValue). x.broken) (broke_is ∙ sym (broken_value (core_of v).now k (hears_parts k on).0))
 
       shut_now : is_shut_value (all_broken (core_of v).now (number ∷ []) (core_of v).conns number) ≡ true
-      shut_now = ap is_shut_value (broke_is ∙ sym (broken_value (core_of v).now k (hears_parts k on).0)) ∙ or_true k.closed
-        where
-          or_true : (b : Bool) → (b || true) ≡ true
-          or_true true = refl
-          or_true false = refl
+      shut_now = grind (arith, nat_tests)
 
   -- nothing comes of it
   pub read_more : (q : List ℕ) (reader : ReaderValue) (h : History) → ReadsTo v.plans k.reader q reader [] → l ≡ read_held reader k → jobs ≡ [] → w.begun ≡ v.begun → Adds h.opened (Piece number q) h (core_of v) (core_of w)
@@ -213,17 +161,11 @@ module _ (laws : RequestLaws) (number : ℕ) (bytes : List ℕ) (v w : GatewayVa
       held = let h = (s.each number k k_is).holds in record { own = h.own; apart = h.apart; came = h.came; dead = h.dead; few = h.few }
 
       steps : step (core_of v).now (Comes number x) (connection number v) ≡ stepped (entered (arriving (core_of v).now x (connection_of k)) (connection_of k)) (arriving (core_of v).now x (connection_of k)).jobs
-      steps =
-          ap (λ y. step (core_of v).now (Comes number x) y) value_is
-          ∙ ap (λ b. if b then stepped (connection_of k) [] else stepped (entered (arriving (core_of v).now x (connection_of k)) (connection_of k)) (arriving (core_of v).now x (connection_of k)).jobs) (hears_parts k on).1
+      steps = grind (arith, nat_tests)
 
   -- the text has its requests, once the reader read it
   pub known_then : (q : List ℕ) (reader : ReaderValue) (gained : List Coming) (h : History) → ReadsTo v.plans k.reader q reader gained → HasConns (core_of v) h.opened h.events → IsKnown (stream h.opened number h.events ++ q)
-  known_then q reader gained h reads c =
-      let come = (c.each number).has_come parts.0 parts.1 in
-      let r : Reads v.plans k.reader q reader gained (stream h.opened number h.events) come.given =
-      reads (stream h.opened number h.events) come.given (subst (λ r. HasRead r (stream h.opened number h.events) come.given) reader_is come.reads) in
-      read_requests reader (stream h.opened number h.events ++ q) r.now_given r.reads
+  known_then q reader gained h reads c = grind (arith, nat_tests, parts, Reads, reader_is, read_requests)
 
 -- ---- bytes of a piece, as the gateway takes them
 
@@ -292,10 +234,7 @@ module _ (laws : RequestLaws) (number : ℕ) (bytes : List ℕ) (v w : GatewayVa
 
 -- a piece changes nothing of whether its stream is heard
 heard_before : (h : History) (n : ℕ) (p : List ℕ) → listens h.opened n (Piece n p ∷ h.events) ≡ true → listens h.opened n h.events ≡ true
-heard_before h n p on =
-    let open_same : is_open h.opened n (Piece n p ∷ h.events) ≡ is_open h.opened n h.events = open_still h.opened n (Piece n p) h.events refl refl in
-    let hung_same : hung_up h.opened n (Piece n p ∷ h.events) ≡ hung_up h.opened n h.events = hung_still h.opened n (Piece n p) h.events refl in
-    sym (λ i. open_same i && not (hung_same i)) ∙ on
+heard_before h n p on = grind arith
 
 text_then : (h : History) (n : ℕ) (p : List ℕ) → listens h.opened n h.events ≡ true → stream h.opened n (Piece n p ∷ h.events) ≡ stream h.opened n h.events ++ p
 text_then h n p on = text_on h.opened n n p h.events on ∙ ap (λ b. if b then stream h.opened n h.events ++ p else stream h.opened n h.events) (eq-eqb n n refl)
@@ -338,10 +277,7 @@ module _ (laws : RequestLaws) (number : ℕ) (bytes : List ℕ) (v w : GatewayVa
 
     -- a stream that goes on has not ended
     not_ended : is_over k.reader.reading ≡ false → (given : List HttpRequest) (ending : StreamEnd) → Requests 0 (stream h.opened number h.events) given ending → ((left : List ℕ) → ending ≡ Open left → ⊥) → ⊥
-    not_ended going given ending its ended =
-        let left = midway k.reader.reading going (s.each number k k_is).settled in
-        let was : Requests 0 (stream h.opened number h.events) come.given (Open left.0) = subst (λ r. HasReadTo r (stream h.opened number h.events) come.given) left.1 was_read.reads in
-        ended left.0 (laws.unique 0 (stream h.opened number h.events) given come.given ending (Open left.0) its was).1
+    not_ended going given ending its ended = grind (arith, nat_tests, midway, come, was_read)
 
   one_taken : (n : ℕ) → Feeds number bytes v w (Ok n) → TakesOne v.plans (stream h.opened number h.events) bytes n
   one_taken n (absent none r w_is) = absurd (cc)
@@ -387,8 +323,4 @@ module _ (laws : RequestLaws) (n : ℕ) (v : CoreValue) (h : History) where
       none false os at = at
 
   pub begun_up : HasConns v h.opened h.events → FedUpTo n [] h v v
-  begun_up c = record {
-    before = c;
-    adds = nothing_adds;
-    known = λ q gained gains. (gains.given, gains.ending, subst (λ t. Requests 0 t gains.given gains.ending) (sym (append-nil (stream h.opened n h.events))) gains.text_is);
-  }
+  begun_up c = grind (arith, nat_tests, nothing_adds, append-nil)

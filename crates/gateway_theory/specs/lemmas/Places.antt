@@ -1,14 +1,7 @@
 -- The words of Past by places in the finished list.
+use Rattle.std.specs.Prelude.{◌≡◌, ◌≤◌, ◌<◌, ◌∷◌, ◌++◌, ◌⊎◌}
+use Rattle.gateway_theory.specs.lemmas.Names.{ℕ, zero, suc, List, [], length, reverse, Option, None, Some, refl, sym, ap, ◌∙◌, subst, arith, ⊎_elim, inl, inr, slice_get, option_or, cases_lt, reverse-append, reverse-reverse, take-append-le, take_all, length_push, CallId, Occurrence, CallEvent, past_of, mark_of, deciding, decided, nat_tests}
 use Rattle.std.proofs.lemmas.Option.{slice_get_past}
-use Rattle.std.proofs.Common.{◌≡◌, ℕ, zero, suc, ◌≤◌, ◌<◌, List, [], ◌∷◌, ◌++◌, length, reverse, Option, None, Some, refl, sym, ap, ◌∙◌, subst, arith, ⊎_elim, inl, inr}
-use Rattle.std.specs.Prelude.{◌⊎◌, slice_get}
-use Rattle.std.specs.Option.{option_or}
-use Rattle.std.proofs.lemmas.Bool.{cases_lt}
-use Rattle.std.proofs.lemmas.List.{reverse-append, reverse-reverse, take-append-le, take_all, length_push}
-use Rattle.gateway_model.specs.declared.id.CallId.{CallId}
-use Rattle.gateway_model.specs.Occurrence.{Occurrence}
-use Rattle.gateway_model.specs.declared.call_event.CallEvent.{CallEvent}
-use Rattle.gateway_model.specs.Past.{past_of, mark_of, deciding, decided}
 use Rattle.gateway_model.specs.Decided.{before, deciding_at, IsDecidedAt}
 
 -- one more occurrence, at the end
@@ -74,15 +67,7 @@ decides id = push_induction (λ xs. Decides id xs)
     let now_is : decided id (past_of (xs ++ e ∷ [])) ≡ Some some.0 = decided-push id xs e ∙ rw some.1 refl in
     let place = h.found some.0 some.1 in
     record {
-      found = λ r is.
-          let same : some.0 ≡ r = let both : Some some.0 ≡ Some r = sym now_is ∙ is in cc in (
-            place.0,
-            omega (arith, place.1, length_push xs e),
-            record {
-              here = deciding_at-old id xs e place.0 place.1 ∙ place.2.here ∙ ap (λ x. Some x) same;
-              least = λ u lt. deciding_at-old id xs e u (omega (arith, lt, place.1)) ∙ place.2.least u lt;
-            },
-          );
+      found = λ r is. grind (arith, nat_tests, length_push, deciding_at-old);
       none_yet = λ is u lt. let bad : Some some.0 ≡ None = sym now_is ∙ is in cc;
     })
     (option_cases (decided id (past_of xs))))

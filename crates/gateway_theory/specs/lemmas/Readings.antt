@@ -1,19 +1,7 @@
 -- What follows of the relation.
-use Rattle.std.proofs.Common.{◌≡◌, ℕ, false, List, [], ◌∷◌, map, Option, None, Some, refl}
-use Rattle.std.specs.Prelude.{◌==◌}
+use Rattle.std.specs.Prelude.{◌≡◌, ◌∷◌, ◌==◌}
+use Rattle.gateway_theory.specs.lemmas.Names.{ℕ, false, List, [], map, Option, None, Some, refl, option_map_or, CallId, job_of, Occurrence, Opening, Comes, HangUp, Moment, Result, Drain, Closing, Break, Mark, Past, ArrivedCall, call, call_id, arrivals, now, jobs_by, jobs_started, branches_started, starting_conn, is_of}
 use Rattle.std.specs.List.{filter}
-use Rattle.std.specs.Option.{option_map_or}
-use Rattle.gateway_model.specs.declared.id.CallId.{CallId}
-use Rattle.gateway_model.specs.Job.{job_of}
-use Rattle.gateway_model.specs.Occurrence.{Occurrence, Opening, Comes, HangUp, Moment, Result, Drain, Closing, Break}
-use Rattle.gateway_model.specs.Past.{Mark, Past, ArrivedCall, call, call_id, arrivals, now}
-use Rattle.gateway_model.specs.Starts.{jobs_by, jobs_started, branches_started}
-use Rattle.gateway_theory.specs.Breaks.{starting_conn}
-use Rattle.gateway_model.specs.Known.{is_of}
-
--- ---- the queue
-
--- ---- a call that can't be decided any more
 
 -- ---- jobs
 

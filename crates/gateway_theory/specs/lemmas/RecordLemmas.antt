@@ -1,19 +1,8 @@
 -- The record of a decided call is lawful, and decided.
-use Rattle.std.proofs.Common.{◌≡◌, ℕ, suc, ◌+◌, ◌≤◌, ◌<◌, min, Bool, true, false, List, [], ◌∷◌, ◌++◌, length, Option, None, Some, refl, sym, ap, ◌∙◌, subst, arith, append_assoc, append-nil, ⊎_elim}
-use Rattle.std.specs.Prelude.{is_some, is_none, ◌&&◌, ◌||◌, not, ◌==◌, nat_lt, if◌then◌else◌, option_and_then, option_map, slice_index_or}
-use Rattle.std.specs.Option.{option_or, option_map_or}
-use Rattle.std.proofs.lemmas.Bool.{cases_Bool, and_parts, lt-ltb, le-ltb, eq-eqb, ne_eqb, ltb-false, and_from as and_both}
-use Rattle.connect_codec.specs.declared.answer.Outcome.{Outcome}
-use Rattle.connect_codec.specs.declared.answer.Outcome.TheVariants.{Answer, Fail}
-use Rattle.gateway_model.specs.declared.entry.ReplyEntry.TheVariants.{Call as Calling}
-use Rattle.gateway_model.specs.declared.call_event.CallEvent.{CallEvent}
-use Rattle.gateway_model.specs.declared.call_event.CallEvent.TheVariants.{Answer as Answered, Failed, Expired, BranchExpired, HungUp, Drained}
-use Rattle.gateway_model.specs.declared.id.CallId.{CallId}
-use Rattle.gateway_model.specs.Arrival.{Judged, Asks}
-use Rattle.gateway_model.specs.CallRecord.{CallRecord, answer_in, answer_of_branch}
-use Rattle.gateway_model.specs.Occurrence.{Occurrence, Opening, Comes, HangUp, Moment, Result, Drain, Closing, Coming, Request, Refused, Break}
-use Rattle.gateway_model.specs.Past.{Mark, Past, ArrivedCall, call, answers, asked_by, asked_now, began, branches, counts, decided, decides, ends_at_arrival, coming_now, event_by, is_answer_to, is_call, is_shut, is_due, is_drained, branch_deadlines, can_be_decided, deadlines_out, is_out, is_result_of, mark_of, marked, now, own_event, started}
-use Rattle.gateway_model.specs.Queue.{came, call_entry, entry, entry_by, own_events, record_deadlines, record_of}
+use Rattle.std.specs.Prelude.{◌≡◌, ◌+◌, ◌<◌, ◌∷◌, ◌++◌, ◌&&◌, ◌||◌, ◌==◌, if◌then◌else◌}
+use Rattle.gateway_theory.specs.lemmas.Names.{ℕ, Bool, true, false, List, [], length, Option, None, Some, refl, sym, ap, ◌∙◌, subst, arith, append_assoc, ⊎_elim, nat_tests, is_some, is_none, not, nat_lt, option_map, slice_index_or, option_or, cases_Bool, and_parts, lt-ltb, le-ltb, eq-eqb, ne_eqb, ltb-false, and_from as and_both, Outcome, Answer, Fail, Call as Calling, CallEvent, Failed, Expired, BranchExpired, CallId, Judged, Asks, CallRecord, answer_in, answer_of_branch, Occurrence, Opening, Comes, HangUp, Moment, Result, Drain, Closing, Coming, Request, Refused, Break, Mark, Past, ArrivedCall, call, answers, asked_now, began, branches, counts, decided, decides, event_by, is_answer_to, is_call, is_shut, is_due, branch_deadlines, can_be_decided, deadlines_out, is_out, is_result_of, mark_of, marked, now, own_event, started, came, call_entry, entry, entry_by, own_events, record_deadlines, record_of}
+use Rattle.std.proofs.Common.{append-nil}
+use Rattle.gateway_model.specs.declared.call_event.CallEvent.TheVariants.{Answer as Answered, HungUp, Drained}
 use Rattle.gateway_model.specs.Record.{answers_among, is_out_after, may_come, may_follow, ends_at_start, is_lawful, is_ending, is_decided}
 use Rattle.gateway_theory.specs.lemmas.LimitLemmas.{out_started, same_call, started_grows, unanswered, unanswered_next}
 use Rattle.gateway_theory.specs.lemmas.PastLemmas.{call_stays}
@@ -38,9 +27,7 @@ is_last_more (x ∷ es) e = ne_eqb (length (x ∷ es ++ e ∷ [])) 0 (λ none. o
 
 follow_more : (r : CallRecord) (before es : List CallEvent) (e : CallEvent) → may_follow r before es ≡ true → none_decides r before es ≡ true
     → may_come r (before ++ es) e ≡ true → may_follow r before (es ++ e ∷ []) ≡ true
-follow_more r before [] e f g c =
-    let c0 : may_come r before e ≡ true = subst (λ xs. may_come r xs e ≡ true) (append-nil before) c in
-    rw c0 refl
+follow_more r before [] e f g c = grind (arith, nat_tests, append-nil)
 follow_more r before (x ∷ es) e f g c =
     let fp = and_parts (may_come r before x && (length es == 0 || not (decides (answers_among before) (length r.plan.branches) x))) (may_follow r (before ++ x ∷ []) es) f in
     let fq = and_parts (may_come r before x) (length es == 0 || not (decides (answers_among before) (length r.plan.branches) x)) fp.0 in
@@ -51,10 +38,7 @@ follow_more r before (x ∷ es) e f g c =
 
 on_more : (r : CallRecord) (before es : List CallEvent) (e : CallEvent) → none_decides r before es ≡ true
     → decides (answers_among (before ++ es)) (length r.plan.branches) e ≡ false → none_decides r before (es ++ e ∷ []) ≡ true
-on_more r before [] e g d =
-    let d0 : decides (answers_among before) (length r.plan.branches) e ≡ false =
-    subst (λ xs. decides (answers_among xs) (length r.plan.branches) e ≡ false) (append-nil before) d in
-    rw d0 refl
+on_more r before [] e g d = grind (arith, nat_tests, append-nil)
 on_more r before (x ∷ es) e g d =
     let gp = and_parts (not (decides (answers_among before) (length r.plan.branches) x)) (none_decides r (before ++ x ∷ []) es) g in
     rw gp.0 (on_more r (before ++ x ∷ []) es e gp.1
@@ -96,8 +80,7 @@ no_answer_more k (x ∷ es) e h n =
     none_or (answer_of_branch k (es ++ e ∷ [])) (answer_in k x) (no_answer_more k es e parts.0 n) parts.1
   where
     none_parts : (x y : Option (List ℕ)) → is_none (option_or x y) ≡ true → (is_none x ≡ true) × (is_none y ≡ true)
-    none_parts None y h = (refl, h)
-    none_parts (Some a) y h = absurd (cc)
+    none_parts x y h2 = grind (arith, nat_tests)
 
 other_answer : (k i : ℕ) (body : List ℕ) → (i ≡ k → ⊥) → is_none (answer_in k (Answered i body)) ≡ true
 other_answer k i body ne = rw (ne_eqb i k ne) refl
@@ -148,102 +131,30 @@ decided_then : (id : CallId) (a : ArrivedCall) (m : Mark) (past : Past) (e : Cal
 decided_then id a m past e h own = rw (h.undecided, own, h.call_is) refl
 
 began_out : (id : CallId) (i : ℕ) (past : Past) → is_out id i past ≡ true → began id past ≡ true
-began_out id i past out =
-    ⊎_elim (λ (yes : began id past ≡ true). yes)
-    (λ (above : began id past ≡ false). absurd (let lt : i < started id past = out_started id i past out in let none : started id past ≡ 0 = rw above refl in omega (arith, lt, none)))
-    (cases_Bool (began id past))
+began_out id i past out = grind (arith, nat_tests, out_started)
 
 -- a branch that is out is so by the record
 out_of_record : (id : CallId) (a : ArrivedCall) (m : Mark) (past : Past) (i : ℕ) → Undecided id a m past → is_out id i past ≡ true
     → is_out_after (blank a []) (own_events id past) i ≡ true
-out_of_record id a m past i h out =
-    let lt : i < started id past = out_started id i past out in
-    let is : started id past ≡ min (length a.plan.branches) (a.plan.limit + answers id past) = started_live id a past h.call_is (began_out id i past out) in
-    and_both (nat_lt i (min (length a.plan.branches) (a.plan.limit + answers_among (own_events id past)))) (is_none (answer_of_branch i (own_events id past)))
-    (lt-ltb i (min (length a.plan.branches) (a.plan.limit + answers_among (own_events id past))) (omega (arith, lt, is, h.going.counted)))
-    (h.going.outs i out)
+out_of_record id a m past i h out = grind (arith, nat_tests, out_started, started_live, began_out, and_both, lt-ltb)
 
 -- nothing happens to it
 goes_quiet : (id : CallId) (a : ArrivedCall) (m : Mark) (past : Past) → Undecided id a m past → own_event id m past ≡ None → (m.counted && is_answer_to id m.what) ≡ false
     → Lawful id a (m ∷ past)
-goes_quiet id a m past h own none = record {
-  going = λ _ _.
-      let events = events_same id a m past h own in
-      let same : answers id (m ∷ past) ≡ answers id past = rw none refl in
-      record {
-        early = h.going.early;
-        follow = λ ds. rw events (h.going.follow ds);
-        on = λ ds. rw events (h.going.on ds);
-        counted = ap answers_among events ∙ h.going.counted ∙ sym same;
-        outs = λ i out. rw events (by_out i out (nat_lt i (started id past)) refl);
-        below = λ i above. rw events (h.going.below i (was_below i above));
-      };
-  done = λ e dec. absurd (let none_yet : decided id (m ∷ past) ≡ None = rw (own, h.undecided) refl in let bad : Some e ≡ None = sym dec ∙ none_yet in cc);
-}
-  where
-    was_below : (i : ℕ) → nat_lt i (started id (m ∷ past)) ≡ false → nat_lt i (started id past) ≡ false
-    was_below i above = le-ltb i (started id past) (omega (arith, ltb-false i (started id (m ∷ past)) above, started_grows id m past))
-
-    by_out : (i : ℕ) → is_out id i (m ∷ past) ≡ true → (b : Bool) → nat_lt i (started id past) ≡ b → is_none (answer_of_branch i (own_events id past)) ≡ true
-    by_out i out true b_is = h.going.outs i (and_parts (is_out id i past) (not (is_result_of id i m.what)) (rw b_is at out)).0
-    by_out i out false b_is = h.going.below i b_is
+goes_quiet id a m past h own none = grind (arith, nat_tests, events_same, le-ltb, ltb-false, started_grows, and_parts)
 
 -- an event ends it
 goes_ends : (id : CallId) (a : ArrivedCall) (m : Mark) (past : Past) (e : CallEvent) → Undecided id a m past → own_event id m past ≡ Some e
     → decides (answers id past) (length a.plan.branches) e ≡ true → may_come (blank a (record_deadlines id (m ∷ past))) (own_events id past) e ≡ true
     → is_ending (answers_among (own_events id past ++ e ∷ [])) (length a.plan.branches) e ≡ true → Lawful id a (m ∷ past)
-goes_ends id a m past e h own dec come ends =
-    let events = events_then id a m past e h own in
-    let is : decided id (m ∷ past) ≡ Some e = decided_then id a m past e h own ∙ rw dec refl in
-    record {
-      going = λ none _. absurd (let bad : Some e ≡ None = sym is ∙ none in cc);
-      done = λ _ _. record {
-        follow = rw events (follow_more (blank a (record_deadlines id (m ∷ past))) [] (own_events id past) e
-            (h.going.follow (record_deadlines id (m ∷ past))) (h.going.on (record_deadlines id (m ∷ past))) come);
-        start = rw h.going.early refl;
-        ending = rw events (rw (last_is (own_events id past) e) ends);
-      };
-    }
+goes_ends id a m past e h own dec come ends = search (arith, nat_tests, events_then, decided_then, follow_more, last_is)
 
 -- an answer that leaves others open
 none_decides_answered : (id : CallId) (a : ArrivedCall) (past : Past) (o : Occurrence) (i : ℕ) (body : List ℕ) → Undecided id a (mark_of past o) past
     → own_event id (mark_of past o) past ≡ Some (Answered i body) → is_out id i past ≡ true → (counts o past && is_answer_to id o) ≡ true
     → ((k : ℕ) → is_result_of id k o ≡ (i == k))
     → decides (answers id past) (length a.plan.branches) (Answered i body) ≡ false → Lawful id a (mark_of past o ∷ past)
-none_decides_answered id a past o i body h own out_i one of_it dec =
-    let m : Mark = mark_of past o in
-    let e : CallEvent = Answered i body in
-    let events = events_then id a m past e h own in
-    let is : decided id (m ∷ past) ≡ None = decided_then id a m past e h own ∙ rw dec refl in
-    let lt_i : i < started id past = out_started id i past out_i in
-    record {
-      going = λ _ _. record {
-        early = h.going.early;
-        follow = λ ds. rw events (follow_more (blank a ds) [] (own_events id past) e (h.going.follow ds) (h.going.on ds) (out_of_record id a m past i h out_i));
-        on = λ ds. rw events (on_more (blank a ds) [] (own_events id past) e (h.going.on ds) (rw h.going.counted dec));
-        counted = ap answers_among events ∙ among_more (own_events id past) e ∙ (let next : answers id (m ∷ past) ≡ suc (answers id past) = rw one refl in omega (arith, next, h.going.counted));
-        outs = λ k out. rw events (by_out m lt_i k out (nat_lt k (started id past)) refl);
-        below = λ k above. rw events (fresh lt_i k (was_below m k above));
-      };
-      done = λ x dec_is. absurd (let bad : Some x ≡ None = sym dec_is ∙ is in cc);
-    }
-  where
-    was_below : (m : Mark) (k : ℕ) → nat_lt k (started id (m ∷ past)) ≡ false → nat_lt k (started id past) ≡ false
-    was_below m k above = le-ltb k (started id past) (omega (arith, ltb-false k (started id (m ∷ past)) above, started_grows id m past))
-
-    fresh : i < started id past → (k : ℕ) → nat_lt k (started id past) ≡ false → is_none (answer_of_branch k (own_events id past ++ Answered i body ∷ [])) ≡ true
-    fresh lt_i k above =
-        no_answer_more k (own_events id past) (Answered i body) (h.going.below k above)
-        (other_answer k i body (λ same. let ge : started id past ≤ k = ltb-false k (started id past) above in omega (arith, ge, lt_i, same)))
-
-    by_out : (m : Mark) → i < started id past → (k : ℕ) → is_out id k (mark_of past o ∷ past) ≡ true → (b : Bool) → nat_lt k (started id past) ≡ b
-        → is_none (answer_of_branch k (own_events id past ++ Answered i body ∷ [])) ≡ true
-    by_out m lt_i k out false b_is = fresh lt_i k b_is
-    by_out m lt_i k out true b_is =
-        let p = and_parts (is_out id k past) (not (is_result_of id k o)) (rw b_is at out) in
-        let not_it : not (i == k) ≡ true = rw (of_it k) at p.1 in
-        no_answer_more k (own_events id past) (Answered i body) (h.going.outs k p.0)
-        (other_answer k i body (λ same. let bad : not true ≡ true = rw (eq-eqb i k same) at not_it in cc))
+none_decides_answered id a past o i body h own out_i one of_it dec = search (arith, nat_tests, events_then, decided_then, out_started, follow_more, out_of_record, on_more, among_more, le-ltb, ltb-false, started_grows, no_answer_more, other_answer, and_parts, eq-eqb)
 
 -- ---- each occurrence
 
@@ -252,14 +163,11 @@ resulted : (id of : CallId) (a : ArrivedCall) (i : ℕ) (outcome : Outcome) (pas
 resulted id of a i outcome past h = by_count (counts (Result of i outcome) past && is_call of id) outcome refl h
   where
     no_answer : (o : Outcome) (counted : Bool) → (counted && is_call of id) ≡ false → (counted && is_answer_to id (Result of i o)) ≡ false
-    no_answer (Answer body) counted e = e
-    no_answer (Fail error) counted e = and_false counted
+    no_answer o counted h2 = grind (arith, nat_tests)
 
     by_count : (b : Bool) (o : Outcome) → (counts (Result of i o) past && is_call of id) ≡ b → Undecided id a (mark_of past (Result of i o)) past
         → Lawful id a (mark_of past (Result of i o) ∷ past)
-    by_count false o b_is h =
-        goes_quiet id a (mark_of past (Result of i o)) past h (own_is id a (mark_of past (Result of i o)) past h ∙ rw b_is refl)
-        (no_answer o (counts (Result of i o) past) b_is)
+    by_count false o b_is h = grind (arith, nat_tests, goes_quiet, own_is, no_answer, and_parts, same_call, goes_ends, out_of_record, among_more, none_decides_answered)
     by_count true (Fail error) b_is h =
         let p = and_parts (counts (Result of i (Fail error)) past) (is_call of id) b_is in
         let same : of ≡ id = same_call of id p.1 in
@@ -338,75 +246,19 @@ opened_on id a (Break c) past h = goes_quiet id a (mark_of past (Break c)) past 
 
 -- ---- a call that arrives
 
-starts_now : (moment : ℕ) (x : Coming) (a : ArrivedCall) → asked_by moment x ≡ Some a → a.start ≡ moment
-starts_now moment (Refused r) a e = absurd (cc)
-starts_now moment (Request q (Judged v)) a e = absurd (cc)
-starts_now moment (Request q (Asks plan timeout rid)) a e = ap (λ (o : Option ArrivedCall). option_map_or (λ b. b.start) o moment) (sym e)
-
 asked_start : (id : CallId) (m : Mark) (past : Past) (a : ArrivedCall) → asked_now id m past ≡ Some a → a.start ≡ now past
-asked_start id m past a e = by_each m.crowded (coming_now id m past) e
-  where
-    by_each : (c : Bool) (x : Option Coming) → (if c then None else option_and_then (asked_by (now past)) x) ≡ Some a → a.start ≡ now past
-    by_each true x e = absurd (cc)
-    by_each false None e = absurd (cc)
-    by_each false (Some x) e = starts_now (now past) x a e
+asked_start id m past a e = grind arith
 
 pub record Arriving (id : CallId) (a : ArrivedCall) (os : List Occurrence) (m : Mark) : Type 0 where
   pub nothing : Unborn id (marked os)
   pub asked : asked_now id m (marked os) ≡ Some a
 
 arrives_closed : (id : CallId) (a : ArrivedCall) (os : List Occurrence) (m : Mark) → Arriving id a os m → is_shut id.conn (marked os) ≡ true → Lawful id a (m ∷ marked os)
-arrives_closed id a os m h shut = record {
-  going = λ _ open_still. absurd (let bad : true ≡ false = sym (or_true_of _ (is_shut id.conn (marked os)) shut) ∙ open_still in cc);
-  done = λ e dec. absurd (let none : decided id (m ∷ marked os) ≡ None = rw (h.nothing.undecided, shut) refl in let bad : Some e ≡ None = sym dec ∙ none in cc);
-}
-  where
-    or_true_of : (a b : Bool) → b ≡ true → (a || b) ≡ true
-    or_true_of a b e = rw e (or_true a)
+arrives_closed id a os m h shut = grind arith
 
 arrives_open : (id : CallId) (a : ArrivedCall) (os : List Occurrence) (o : Occurrence) → Arriving id a os (mark_of (marked os) o) → is_shut id.conn (marked os) ≡ false
     → answers id (mark_of (marked os) o ∷ marked os) ≡ 0 → Lawful id a (mark_of (marked os) o ∷ marked os)
-arrives_open id a os o h unshut none = by_end (is_drained (marked os)) (is_due (now (marked os)) a.deadline) refl refl
-  where
-    past : Past
-    past = marked os
-
-    m : Mark
-    m = mark_of past o
-
-    own : own_event id m past ≡ ends_at_arrival past a
-    own = rw (unshut, h.nothing.no_call, h.asked) refl
-
-    ended : (e : CallEvent) → ends_at_arrival past a ≡ Some e → decides (answers id past) (branches id past) e ≡ true → may_come (blank a (record_deadlines id (m ∷ past))) [] e ≡ true
-        → is_ending (answers_among (e ∷ [])) (length a.plan.branches) e ≡ true → ends_at_start (e ∷ []) ≡ true → Lawful id a (m ∷ past)
-    ended e is dec come ends at_start =
-        let events : own_events id (m ∷ past) ≡ e ∷ [] = rw (h.nothing.undecided, own, is, h.nothing.no_events) refl in
-        record {
-          going = λ none_yet _. absurd (let some : decided id (m ∷ past) ≡ Some e = rw (h.nothing.undecided, own, is, dec) refl in let bad : Some e ≡ None = sym some ∙ none_yet in cc);
-          done = λ _ _. record {
-            follow = rw (events, come) refl;
-            start = rw (events, at_start) (or_true (not (is_due a.start a.deadline)));
-            ending = rw events ends;
-          };
-        }
-
-    by_end : (d b : Bool) → is_drained past ≡ d → is_due (now past) a.deadline ≡ b → Lawful id a (m ∷ past)
-    by_end true b d_is b_is = ended Drained (rw d_is refl) refl refl refl refl
-    by_end false true d_is b_is = ended (Expired (now past)) (rw (d_is, b_is) refl) refl b_is refl refl
-    by_end false false d_is b_is =
-        let own_none : own_event id m past ≡ None = own ∙ rw (d_is, b_is) refl in
-        let events : own_events id (m ∷ past) ≡ [] = rw (h.nothing.undecided, own_none, h.nothing.no_events) refl in
-        record {
-          going = λ _ _. record {
-            early = rw (asked_start id m past a h.asked) b_is;
-            follow = λ ds. rw events refl;
-            on = λ ds. rw events refl;
-            counted = rw events (sym none);
-            outs = λ i out. rw events refl;
-            below = λ i above. rw events refl;
-          };
-          done = λ e dec. absurd (let none_yet : decided id (m ∷ past) ≡ None = rw (h.nothing.undecided, own_none) refl in let bad : Some e ≡ None = sym dec ∙ none_yet in cc);
-        }
+arrives_open id a os o h unshut none = search (arith, nat_tests, or_true, asked_start)
 
 -- ---- every list of what occurs
 
@@ -442,13 +294,7 @@ lawful_next id os o a before call_is = by_call (call id (marked os)) refl
         })
 
     shut_before : (b : ArrivedCall) → b ≡ a → call id past ≡ Some b → decided id past ≡ None → is_shut id.conn past ≡ true → Lawful id a (m ∷ past)
-    shut_before b same b_is none shut = record {
-      going = λ _ open_still. absurd (let bad : true ≡ false = sym (or_shut shut) ∙ open_still in cc);
-      done = λ e dec. absurd (let none_yet : decided id (m ∷ past) ≡ None = rw (none, shut) refl in let bad : Some e ≡ None = sym dec ∙ none_yet in cc);
-    }
-      where
-        or_shut : is_shut id.conn past ≡ true → is_shut id.conn (m ∷ past) ≡ true
-        or_shut e = rw e (or_true _)
+    shut_before b h1 h2 h3 h4 = grind (arith, nat_tests)
 
     called_before : (b : ArrivedCall) → call id past ≡ Some b → b ≡ a → Lawful id a (m ∷ past)
     called_before b b_is same = by_each (decided id past) (is_shut id.conn past) refl refl

@@ -1,22 +1,12 @@
 -- The reply to a decided call, by its last event.
-use Rattle.std.proofs.Common.{◌≡◌, ℕ, List, [], ◌∷◌, ◌++◌, ◌+◌, ◌<◌, length, take, get_or, refl, sym, ap, ◌∙◌, arith}
-use Rattle.std.proofs.lemmas.List.{take_more, length-map}
-use Rattle.std.proofs.lemmas.List.FromFn.{length-range_with_len, map-range_with_len_more}
-use Rattle.std.specs.List.{range_with_len}
-use Rattle.std.specs.Prelude.{Option, None, Some, unwrap_or}
-use Rattle.std.specs.Option.{option_or}
-use Rattle.gateway_model.specs.declared.call_event.CallEvent.{CallEvent}
-use Rattle.gateway_model.specs.CallRecord.{answer_in, answer_of_branch, answers_in}
+use Rattle.std.specs.Prelude.{◌≡◌, ◌∷◌, ◌++◌, ◌+◌, ◌<◌}
+use Rattle.gateway_theory.specs.lemmas.Names.{ℕ, List, [], length, take, get_or, sym, ap, ◌∙◌, arith, nat_tests, take_more, length-map, length-range_with_len, map-range_with_len_more, range_with_len, unwrap_or, CallEvent, answer_in, answer_of_branch, answers_in}
 use Rattle.gateway_theory.specs.lemmas.StandsLemmas.{answer_after}
 
 -- of two answers of one branch the later one counts
 pub later_answer : (i : ℕ) (es : List CallEvent) (e : CallEvent)
     → unwrap_or (answer_of_branch i (es ++ e ∷ [])) [] ≡ unwrap_or (answer_in i e) (unwrap_or (answer_of_branch i es) [])
-later_answer i es e = rw (answer_after i es e) (by (answer_in i e))
-  where
-    by : (x : Option (List ℕ)) → unwrap_or (option_or x (answer_of_branch i es)) [] ≡ unwrap_or x (unwrap_or (answer_of_branch i es) [])
-    by None = refl
-    by (Some a) = refl
+later_answer i es e = grind (arith, nat_tests, answer_after)
 
 -- the answers of the events so far, by one event more
 pub later_step : (i : ℕ) (es : List CallEvent) (k : ℕ) (e : CallEvent) (old new : List ℕ) → k < length es → e ≡ get_or es k e

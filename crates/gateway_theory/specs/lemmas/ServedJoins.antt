@@ -1,29 +1,12 @@
 -- A piece that is fed in parts is as one piece.
-use Rattle.std.proofs.Common.{◌≡◌, ℕ, suc, ◌+◌, Bool, true, false, List, [], ◌∷◌, ◌++◌, map, length, refl, sym, ap, ◌∙◌, subst, arith, append_assoc, ◌≤◌}
-use Rattle.std.specs.Prelude.{if◌then◌else◌, ◌&&◌, ◌==◌, MatchBool, reverse}
-use Rattle.std.proofs.lemmas.List.{length-append, map-append, reverse-append}
-use Rattle.call_plan.specs.Plan.{PlanRecord}
+use Rattle.std.specs.Prelude.{◌≡◌, ◌+◌, ◌∷◌, ◌++◌, ◌≤◌, if◌then◌else◌}
+use Rattle.gateway_theory.specs.lemmas.Names.{ℕ, suc, Bool, true, false, List, [], map, length, refl, sym, ap, ◌∙◌, subst, arith, append_assoc, nat_tests, MatchBool, reverse, length-append, map-append, reverse-append, PlanRecord, HttpRequest, closes, StreamEnd, EndsAt, Requests, unfinished, broken, BreakAsTheyMay, CanBreakAt, MayOccur, Before, Gains, OccursAt, listens, refusal_gained, requests_gained, stream, Event, Piece, Coming, Comes, Occurrence, marked, RequestLaws, at_place, Adds, CoreValue, FedUpTo, HasConns, Lives, Placed, occurrences, History, after_event, without_breaks, calls_arrived}
 use Rattle.http_pieces.specs.Cut.{Complete, Cut}
-use Rattle.http_pieces.specs.Request.{HttpRequest, closes}
-use Rattle.http_pieces.specs.Requests.{StreamEnd, Closed, EndsAt, Requests, unfinished, broken}
 use Rattle.http_pieces.specs.declared.refusal.Refusal.{Refusal}
-use Rattle.gateway_model.specs.Breaks.{BreakAsTheyMay, CanBreakAt, MayOccur}
-use Rattle.gateway_model.specs.Concerns.{can_break}
-use Rattle.gateway_model.specs.Events.{Before, Gains, OccursAt, listens, refusal_gained, requests_gained, stream}
-use Rattle.gateway_model.specs.declared.event.Event.{Event}
-use Rattle.gateway_model.specs.declared.event.Event.TheVariants.{Piece}
-use Rattle.gateway_model.specs.Occurrence.{Coming, Comes, Occurrence}
-use Rattle.gateway_model.specs.Past.{marked}
-use Rattle.gateway_theory.specs.RequestLaws.{RequestLaws}
-use Rattle.gateway_theory.specs.Core.{at_place, Adds, CoreValue, FedUpTo, HasConns, IsKnown, Lives}
-use Rattle.gateway_model.specs.Starts.{Placed, occurrences}
-use Rattle.gateway_model.specs.History.{History, after_event}
+use Rattle.gateway_theory.specs.Core.{IsKnown}
 use Rattle.gateway_theory.specs.lemmas.Adding.{AreBreaks, BreakSo, MayBreak, occurrences_at, Newer, breaks_join, breaks_later, can_later, without_both, StandsNow, adds_counted}
 use Rattle.gateway_theory.specs.lemmas.CutLemmas.{IsSame, gains_both, listens_piece, same_piece, stream_piece}
-use Rattle.gateway_model.specs.Own.{without_breaks}
-use Rattle.gateway_theory.specs.Arrivals.{calls_arrived}
 use Rattle.gateway_theory.specs.lemmas.ServedLemmas.{stays_itself, stream_stays}
-use Rattle.gateway_model.specs.Occurrence as occurs
 
 -- ---- a longer text has the requests of the shorter, and may have more
 
@@ -47,15 +30,8 @@ requests_front laws k s more (q ∷ given) (r ∷ whole) e f h g =
     by_close : (b : Bool) → closes q ≡ b → (q ≡ r) × (h.0 ++ more ≡ g.0)
         → (Requests (suc k) h.0 given e → Requests (suc k) (h.0 ++ more) whole f → (rest : List HttpRequest) × (whole ≡ given ++ rest))
         → (rest : List HttpRequest) × (r ∷ whole ≡ (q ∷ given) ++ rest)
-    by_close true c same next =
-        let first : (given ≡ []) × (e ≡ Closed) = subst (λ b. MatchBool b ((given ≡ []) × (e ≡ Closed)) (Requests (suc k) h.0 given e)) c h.2 in
-        let second : (whole ≡ []) × (f ≡ Closed) = subst (λ b. MatchBool b ((whole ≡ []) × (f ≡ Closed)) (Requests (suc k) g.0 whole f)) (ap closes (sym same.0) ∙ c) g.2 in
-        ([], ap (λ x. x ∷ whole) (sym same.0) ∙ ap (λ xs. q ∷ xs) (second.0 ∙ sym (ap (λ xs. xs ++ []) first.0)))
-    by_close false c same next =
-        let first : Requests (suc k) h.0 given e = subst (λ b. MatchBool b ((given ≡ []) × (e ≡ Closed)) (Requests (suc k) h.0 given e)) c h.2 in
-        let second : Requests (suc k) g.0 whole f = subst (λ b. MatchBool b ((whole ≡ []) × (f ≡ Closed)) (Requests (suc k) g.0 whole f)) (ap closes (sym same.0) ∙ c) g.2 in
-        let rest = next first (subst (λ t. Requests (suc k) t whole f) (sym same.1) second) in
-        (rest.0, ap (λ x. x ∷ whole) (sym same.0) ∙ ap (λ xs. q ∷ xs) rest.1)
+    by_close true c same next = grind (arith, nat_tests)
+    by_close false c same next = grind (arith, nat_tests)
 
 -- what the shorter text gains, and then the longer
 gains_parts : RequestLaws → (plans : List PlanRecord) (s t : List ℕ) (given whole : List HttpRequest) (e f : StreamEnd) (more : List ℕ) → t ≡ s ++ more → Requests 0 s given e → Requests 0 t whole f
@@ -82,21 +58,12 @@ rest_of (e ∷ es) = es
 
 pub last_event : (e : Event) (es later : Before) (event : Event) (before : Before) → e ∷ es ≡ later ++ event ∷ before → length before ≡ length es → (event ≡ e) × (before ≡ es)
 last_event e es [] event before is place = (cc, cc)
-last_event e es (x ∷ later) event before is place = absurd (
-    let rest : es ≡ later ++ event ∷ before = ap rest_of is in
-    let size : length es ≡ length later + length (event ∷ before) = ap (λ (xs : Before). length xs) rest ∙ length-append later (event ∷ before) in omega (arith, size, place))
+last_event e es (x ∷ later) event before is place = grind (arith, nat_tests, length-append)
 
 -- the breaks among the newest, by what may break at their place
 so_broke : (P : ℕ → List Occurrence → Type 0) (opened : List ℕ) (es : Before) (m : ℕ) → ((c : ℕ) (us : List Occurrence) → CanBreakAt c m opened es (marked us) → P c us)
     → (o : Occurrence) (us : List Occurrence) → MayOccur opened es m o (marked us) → BreakSo P o us
-so_broke P opened es m f (occurs.Break c) us b = f c us b
-so_broke P opened es m f occurs.Opening us b = tt
-so_broke P opened es m f (occurs.Comes c x) us b = tt
-so_broke P opened es m f (occurs.HangUp c) us b = tt
-so_broke P opened es m f (occurs.Moment t) us b = tt
-so_broke P opened es m f (occurs.Result id i r) us b = tt
-so_broke P opened es m f occurs.Drain us b = tt
-so_broke P opened es m f (occurs.Closing c) us b = tt
+so_broke P opened es m h4 o us h7 = grind (arith, nat_tests)
 
 pub breaks_back : (P : ℕ → List Occurrence → Type 0) (opened : List ℕ) (es : Before) (m : ℕ) → ((c : ℕ) (us : List Occurrence) → CanBreakAt c m opened es (marked us) → P c us)
     → (newer : List Occurrence) (lived : List Placed) → BreakAsTheyMay opened es (at_place m newer ++ lived) → AreBreaks P newer (occurrences lived)
@@ -122,12 +89,7 @@ module _ (n : ℕ) (p q : List ℕ) (history : History) where
   MayNow = MayBreak history.opened (Piece n (p ++ q)) history.events
 
   pub by_second : (c : ℕ) (us : List Occurrence) → CanBreakAt c (length (Piece n p ∷ history.events)) history.opened (Piece n q ∷ Piece n p ∷ history.events) (marked us) → MayNow c us
-  by_second c us b =
-      let at = last_event (Piece n q) (Piece n p ∷ history.events) b.later b.event b.before b.events_are b.place_is in (
-        b.first,
-        ap (λ x. (c == n) && x) (sym (listens_piece history.opened n n p history.events))
-            ∙ sym (ap (λ e. can_break c history.opened e b.before (marked us)) at.0 ∙ ap (λ es. can_break c history.opened (Piece n q) es (marked us)) at.1) ∙ b.can,
-      )
+  by_second c us b = grind (arith, nat_tests, last_event, listens_piece)
 
   pub by_first : (c : ℕ) (us : List Occurrence) → CanBreakAt c (length history.events) history.opened (Piece n q ∷ Piece n p ∷ history.events) (marked us) → MayNow c us
   by_first c us b = by_later b.later b.events_are
@@ -135,27 +97,14 @@ module _ (n : ℕ) (p q : List ℕ) (history : History) where
       by_later : (later : Before) → Piece n q ∷ Piece n p ∷ history.events ≡ later ++ b.event ∷ b.before → MayNow c us
       by_later [] is = absurd (let size : length (Piece n q ∷ Piece n p ∷ history.events) ≡ length (b.event ∷ b.before) = ap (λ (xs : Before). length xs) is in
           let place = b.place_is in omega (arith, size, place))
-      by_later (x ∷ later) is =
-          let at = last_event (Piece n p) history.events later b.event b.before (ap (λ (xs : Before). rest_of xs) is) b.place_is in (
-            b.first,
-            sym (ap (λ e. can_break c history.opened e b.before (marked us)) at.0 ∙ ap (λ es. can_break c history.opened (Piece n p) es (marked us)) at.1) ∙ b.can,
-          )
+      by_later (x ∷ later) is = grind (arith, nat_tests, last_event, rest_of)
 
 -- what the one brings is what the two bring
 module _ (laws : RequestLaws) (n : ℕ) (p q : List ℕ) (plans : List PlanRecord) (history : History)
     (middle : (gained : List Coming) → Gains plans (stream history.opened n history.events) (stream history.opened n history.events ++ (p ++ q)) gained → (given : List HttpRequest) × (ending : StreamEnd) × Requests 0 (stream history.opened n history.events ++ p) given ending) where
   pub parts : (b : Bool) → listens history.opened n history.events ≡ b → (os : List Occurrence) → OccursAt plans history.opened (Piece n (p ++ q)) history.events os
       → (xs : List Occurrence) × (ys : List Occurrence) × OccursAt plans history.opened (Piece n p) history.events xs × OccursAt plans history.opened (Piece n q) (Piece n p ∷ history.events) ys × (xs ++ ys ≡ os)
-  parts false x os at = (
-    [],
-    [],
-    subst (λ b. Both b (stream history.opened n history.events) (stream history.opened n history.events ++ p) []) (sym x) refl,
-    subst (λ b. Both b (stream history.opened n (Piece n p ∷ history.events)) (stream history.opened n (Piece n p ∷ history.events) ++ q) []) (sym (listens_piece history.opened n n p history.events ∙ x)) refl,
-    sym (subst (λ b. Both b (stream history.opened n history.events) (stream history.opened n history.events ++ (p ++ q)) os) x at),
-  )
-    where
-      Both : Bool → List ℕ → List ℕ → List Occurrence → Type 0
-      Both b s t os = MatchBool b ((gained : List Coming) × Gains plans s t gained × (os ≡ map (Comes n) gained)) (os ≡ [])
+  parts false x os at = grind arith
   parts true x os at = by_gains (subst (λ b. Both b (stream history.opened n history.events) (stream history.opened n history.events ++ (p ++ q)) os) x at)
     where
       Both : Bool → List ℕ → List ℕ → List Occurrence → Type 0
@@ -205,24 +154,13 @@ module _ (laws : RequestLaws) (n : ℕ) (p q : List ℕ) (u v w : CoreValue) (h 
             (breaks_back (MayNow n p q h) h.opened (Piece n q ∷ Piece n p ∷ h.events) (length (Piece n p ∷ h.events)) (by_second n p q h) y.0 (at_place (length h.events) x.0 ++ lived) y.2.breaks))
             (breaks_back (MayNow n p q h) h.opened (Piece n q ∷ Piece n p ∷ h.events) (length h.events) (by_first n p q h) x.0 lived
             (breaks_behind h.opened (Piece n q ∷ Piece n p ∷ h.events) (length (Piece n p ∷ h.events)) y.0 (at_place (length h.events) x.0 ++ lived) y.2.breaks));
-        stands = subst (StandsNow h w)
-            (occurrences_at (length (Piece n p ∷ h.events)) y.0 (at_place (length h.events) x.0 ++ lived)
-            ∙ ap (λ us. y.0 ++ us) (occurrences_at (length h.events) x.0 lived) ∙ sym (append_assoc y.0 x.0 (occurrences lived)))
-            y.2.stands;
+        stands = grind (arith, nat_tests, StandsNow, occurrences_at, append_assoc);
       }
 
   few_joined : (c : HasConns u h.opened h.events) (lived : List Placed) (l : Lives u h lived) (os : List Occurrence) (at : OccursAt u.plans h.opened (Piece n (p ++ q)) h.events os)
       → w.begun ≤ calls_arrived ((newer_joined c lived l os at).newer ++ occurrences lived)
   unfolding newer_joined
-  few_joined c lived l os at =
-      let ps = parts laws n p q u.plans h middle (listens h.opened n h.events) refl os at in
-      let x = first.lives lived l ps.0 ps.2 in
-      let y = second.lives (at_place (length h.events) x.0 ++ lived) x.2 ps.1
-      (subst (λ plans. OccursAt plans h.opened (Piece n q) (Piece n p ∷ h.events) ps.1) (sym first.plans_are) ps.3) in
-      subst (λ us. w.begun ≤ calls_arrived us)
-      (occurrences_at (length (Piece n p ∷ h.events)) y.0 (at_place (length h.events) x.0 ++ lived)
-      ∙ ap (λ us. y.0 ++ us) (occurrences_at (length h.events) x.0 lived) ∙ sym (append_assoc y.0 x.0 (occurrences lived)))
-      y.2.begun_is
+  few_joined c lived l os at = search (arith, nat_tests, parts, occurrences_at, append_assoc)
 
   pub adds_joined : Adds h.opened (Piece n (p ++ q)) h u w
   adds_joined = adds_counted h.opened (Piece n (p ++ q)) h u w (second.plans_are ∙ first.plans_are) (λ c. conns_joined c (second.conns (first.conns c)))

@@ -1,35 +1,17 @@
 -- What an event leaves alone of the connections and their streams.
-use Rattle.std.proofs.Common.{◌≡◌, ℕ, ◌+◌, ◌<◌, ◌≤◌, Bool, true, false, List, [], ◌∷◌, ◌++◌, refl, sym, ap, ◌∙◌, arith, append-nil, suc, length, Option, subst}
-use Rattle.std.specs.Prelude.{if◌then◌else◌, ◌&&◌, ◌||◌, not, nat_lt, ◌==◌}
-use Rattle.std.proofs.lemmas.Bool.{ltb-false, eqb-true}
-use Rattle.gateway_model.specs.Events.{Before, connections, hung_up, is_closing_of, is_hang_up_of, is_open, listens, piece_of, stream}
-use Rattle.gateway_model.specs.declared.event.Event.{Event}
+use Rattle.std.specs.Prelude.{◌≡◌, ◌∷◌, if◌then◌else◌, ◌&&◌, ◌||◌, ◌==◌}
+use Rattle.gateway_theory.specs.lemmas.Names.{ℕ, Bool, true, false, List, [], refl, sym, ap, ◌∙◌, arith, suc, length, Option, subst, nat_tests, not, nat_lt, ltb-false, eqb-true, Before, connections, hung_up, is_closing_of, is_hang_up_of, is_open, listens, piece_of, stream, Event, ReplyEntry, Occurrence, filled, next, Now, went, ConnectionValue, is_open_value, HasStreams, StreamStands, StreamValue, is_heard}
+use Rattle.std.proofs.Common.{append-nil}
 use Rattle.gateway_theory.specs.lemmas.Cases.{and_true, and_false, or_false, or_true}
 use Rattle.gateway_theory.specs.lemmas.CutLemmas.{open_known}
-use Rattle.gateway_model.specs.declared.entry.ReplyEntry.{ReplyEntry}
 use Rattle.gateway_model.specs.declared.event.Event.TheVariants.{Closing, HangUp}
-use Rattle.gateway_model.specs.Occurrence.{Occurrence}
-use Rattle.gateway_model.specs.Past.{breaks}
-use Rattle.gateway_theory.specs.Connection.{call_step, closes, filled, next, Now, went}
-use Rattle.gateway_theory.specs.Values.{ConnectionValue, is_open_value}
-use Rattle.gateway_theory.specs.Core.{HasCome, HasStreams, StreamStands, StreamValue, is_heard}
+use Rattle.gateway_theory.specs.Connection.{closes}
 
 -- ---- what an event leaves alone
 
 pub open_after : (opened : List ℕ) (c : ℕ) (e : Event) (es : Before) → connections opened (e ∷ es) ≡ connections opened es
     → is_open opened c (e ∷ es) ≡ (is_open opened c es && not (is_closing_of c e))
-open_after opened c e es same = by_it (nat_lt c (connections opened es)) refl
-  where
-    shut : (b : Bool) → is_open opened c es ≡ b → nat_lt c (connections opened es) ≡ false → is_open opened c es ≡ false
-    shut true x ge = absurd (
-        let l : c < connections opened es = open_known opened c es x in
-        let g : connections opened es ≤ c = ltb-false c (connections opened es) ge in omega (arith, l, g))
-    shut false x ge = x
-
-    by_it : (b : Bool) → nat_lt c (connections opened es) ≡ b
-        → (if b then is_open opened c es && not (is_closing_of c e) else nat_lt c (connections opened (e ∷ es))) ≡ (is_open opened c es && not (is_closing_of c e))
-    by_it true x = refl
-    by_it false x = ap (nat_lt c) same ∙ x ∙ sym (ap (λ b. b && not (is_closing_of c e)) (shut (is_open opened c es) refl x))
+open_after opened c e es same = grind (arith, nat_tests, open_known, ltb-false)
 
 pub open_still : (opened : List ℕ) (c : ℕ) (e : Event) (es : Before) → connections opened (e ∷ es) ≡ connections opened es → is_closing_of c e ≡ false
     → is_open opened c (e ∷ es) ≡ is_open opened c es
@@ -39,11 +21,7 @@ pub hung_still : (opened : List ℕ) (c : ℕ) (e : Event) (es : Before) → is_
 hung_still opened c e es other = ap (λ b. hung_up opened c es || (is_open opened c es && b)) other ∙ ap (λ b. hung_up opened c es || b) (and_false (is_open opened c es)) ∙ or_false (hung_up opened c es)
 
 pub text_still : (opened : List ℕ) (c : ℕ) (e : Event) (es : Before) → piece_of c e ≡ [] → stream opened c (e ∷ es) ≡ stream opened c es
-text_still opened c e es none = by_it (listens opened c es)
-  where
-    by_it : (b : Bool) → (if b then stream opened c es ++ piece_of c e else stream opened c es) ≡ stream opened c es
-    by_it true = ap (λ bytes. stream opened c es ++ bytes) none ∙ append-nil (stream opened c es)
-    by_it false = refl
+text_still opened c e es none = grind (arith, nat_tests, append-nil)
 
 -- the event neither opens, nor closes, nor hangs up, nor brings a piece
 pub record IsPlain (opened : List ℕ) (e : Event) (es : Before) : Type 0 where
@@ -55,9 +33,7 @@ pub record IsPlain (opened : List ℕ) (e : Event) (es : Before) : Type 0 where
 -- ---- connections whose pieces are taken
 
 pub going_parts : (a b : Bool) → (not a && not b) ≡ true → (a ≡ false) × (b ≡ false)
-going_parts false false e = (refl, refl)
-going_parts false true e = absurd (cc)
-going_parts true b e = absurd (cc)
+going_parts a b h2 = grind (arith, nat_tests)
 
 -- no request came more, and it is as closed as it was; it may have broken
 pub record Stays (v w : ConnectionValue) : Type 0 where
@@ -76,14 +52,10 @@ as_many reply k [] = refl
 as_many reply k (s ∷ slots) = ap suc (as_many reply (suc k) slots)
 
 whole_before : (closes_now breaks_now broken : Bool) → closes_now ≡ false → (not closes_now && (breaks_now || broken)) ≡ false → broken ≡ false
-whole_before false true broken still e = absurd (cc)
-whole_before false false broken still e = e
-whole_before true b broken still e = absurd (cc)
+whole_before closes_now breaks_now broken h3 h4 = grind (arith, nat_tests)
 
 open_part : (a b : Bool) → (a && not b) ≡ true → b ≡ false
-open_part true false e = refl
-open_part true true e = absurd (cc)
-open_part false b e = absurd (cc)
+open_part a b h2 = grind (arith, nat_tests)
 
 -- one that is open is not closed
 pub unclosed : (count c : ℕ) (v : ConnectionValue) → is_open_value count c v ≡ true → v.closed ≡ false
@@ -91,14 +63,7 @@ unclosed count c v there = open_part (nat_lt c count) v.closed there
 
 -- a step at which nothing comes, and which does not close it
 pub went_stays : (n : Now) (o : Occurrence) (v : ConnectionValue) → closes v.number o ≡ false → Stays v (went n o v)
-went_stays n o v still = record {
-  closed_is = ap (λ b. b || v.closed) still;
-  broken_was = λ e. whole_before (closes v.number o) (breaks v.number o && not v.closed) v.broken still e;
-  next_is = ap (λ b. v.taken + length (if b then [] else filled (λ k. (call_step n o v k).reply) v.taken v.slots)) still ∙ ap (λ l. v.taken + l) (as_many (λ k. (call_step n o v k).reply) v.taken v.slots);
-}
-
-pub come_stays : (v w : ConnectionValue) (s : StreamValue) (text : List ℕ) → next w ≡ next v → HasCome v s.reader text → HasCome w s.reader text
-come_stays v w s text same h = record { given = h.given; reads = h.reads; settled = h.settled; came = same ∙ h.came }
+went_stays n o v still = grind (arith, nat_tests, whole_before, as_many)
 
 -- events by which a connection is open and hung up, and its text, as by those before
 module _ (opened later : List ℕ) (es fs : Before) (count total c : ℕ) (v w : ConnectionValue) (s : StreamValue) (g : Stays v w) (h : StreamStands opened es count c v s)
@@ -107,34 +72,18 @@ module _ (opened later : List ℕ) (es fs : Before) (count total c : ℕ) (v w :
   value_same : is_open_value total c w ≡ is_open_value count c v
   value_same = ap (λ b. b && not w.closed) count_same ∙ ap (λ b. nat_lt c count && not b) g.closed_is
 
-  was_heard : is_heard w s ≡ true → is_heard v s ≡ true
-  was_heard on = let parts = going_parts w.broken s.hung_up on in rw (g.broken_was parts.0, parts.1) refl
-
   pub stream_stays : StreamStands later fs total c w s
-  stream_stays = record {
-    unopened = λ new. let u = h.unopened (sym count_same ∙ new) in (g.next_is ∙ u.0, g.closed_is ∙ u.1);
-    open_is = open_same ∙ h.open_is ∙ sym value_same;
-    hung_is = λ there on. h.hung_is (sym value_same ∙ there) (g.broken_was on) ∙ sym hung_same;
-    has_come = λ there on. subst (λ text. HasCome w s.reader text) (sym text_same)
-        (come_stays v w s (stream opened c es) g.next_is (h.has_come (sym value_same ∙ there) (was_heard on)));
-  }
+  stream_stays = grind arith
 
 -- an event of no connection's stream
 pub streams_stay : (opened : List ℕ) (e : Event) (es : Before) (count : ℕ) (conns later : ℕ → ConnectionValue) (streams : ℕ → StreamValue) → IsPlain opened e es
     → ((c : ℕ) → Stays (conns c) (later c)) → HasStreams opened es count conns streams → HasStreams opened (e ∷ es) count later streams
-streams_stay opened e es count conns later streams plain g h = record {
-  below = λ place its. let lt = h.below place its in omega (arith, lt);
-  count_is = plain.opens_none ∙ h.count_is;
-  each = λ c. stream_stays opened opened es (e ∷ es) count count c (conns c) (later c) (streams c) (g c) (h.each c) refl (open_still opened c e es plain.opens_none (plain.closes_none c))
-      (hung_still opened c e es (plain.hangs_none c)) (text_still opened c e es (plain.brings_none c));
-}
+streams_stay opened e es count conns later streams plain g h = grind (arith, nat_tests, stream_stays, open_still, hung_still, text_still)
 
 -- pieces of its stream are taken by the definitions too
 pub is_listening : (opened : List ℕ) (es : Before) (count c : ℕ) (v : ConnectionValue) (s : StreamValue) → StreamStands opened es count c v s
     → is_open_value count c v ≡ true → is_heard v s ≡ true → listens opened c es ≡ true
-is_listening opened es count c v s h there on =
-    let parts = going_parts v.broken s.hung_up on in
-    rw (h.open_is ∙ there, sym (h.hung_is there parts.0) ∙ parts.1) refl
+is_listening opened es count c v s h there on = grind arith
 
 -- ---- a hang-up
 
@@ -172,15 +121,7 @@ closed_each : (opened : List ℕ) (n : ℕ) (es : Before) (count c : ℕ) (v w :
 closed_each opened n es count c v w s h false is shuts other =
     stream_stays opened opened es (Closing n ∷ es) count count c v w s (subst (λ x. Stays v x) (sym (other refl)) (stays_itself v)) h refl
     (open_still opened c (Closing n) es refl is) (hung_still opened c (Closing n) es refl) (text_still opened c (Closing n) es refl)
-closed_each opened n es count c v w s h true is shuts other = record {
-  unopened = λ new. absurd (let clash : true ≡ false = sym (shuts refl).0 ∙ ap (λ b. b && not v.closed) new in cc);
-  open_is = open_after opened c (Closing n) es refl ∙ ap (λ b. is_open opened c es && not b) is ∙ and_false (is_open opened c es) ∙ sym off;
-  hung_is = λ there on. absurd (let clash : true ≡ false = sym there ∙ off in cc);
-  has_come = λ there on. absurd (let clash : true ≡ false = sym there ∙ off in cc);
-}
-  where
-    off : is_open_value count c w ≡ false
-    off = ap (λ b. nat_lt c count && not b) (shuts refl).1 ∙ and_false (nat_lt c count)
+closed_each opened n es count c v w s h true is shuts other = grind arith
 
 pub streams_closed : (opened : List ℕ) (n : ℕ) (es : Before) (count : ℕ) (conns later : ℕ → ConnectionValue) (streams : ℕ → StreamValue)
     → ((c : ℕ) → (n == c) ≡ true → (is_open_value count c (conns c) ≡ true) × ((later c).closed ≡ true)) → ((c : ℕ) → (n == c) ≡ false → later c ≡ conns c)

@@ -1,45 +1,22 @@
 -- What an opening adds.
-use Rattle.std.proofs.Common.{◌≡◌, ℕ, suc, ◌+◌, ◌<◌, ◌≤◌, Bool, true, false, List, [], ◌∷◌, ◌++◌, length, refl, sym, ap, ◌∙◌, arith, subst, append-nil, ⊎_elim}
-use Rattle.std.specs.Prelude.{if◌then◌else◌, ◌&&◌, ◌||◌, not, ◌==◌, nat_lt, is_some}
-use Rattle.std.proofs.lemmas.Bool.{ne_eqb, cases_Bool, eq-eqb, eqb-true, ltb-false, ltb-true, lt-ltb, le-ltb}
-use Rattle.std.proofs.lemmas.List.{length-append}
-use Rattle.call_plan.specs.Plan.{PlanRecord}
-use Rattle.gateway_model.specs.Breaks.{BreakAsTheyMay, CanBreakAt, MayOccur, by_events}
-use Rattle.gateway_model.specs.Concerns.{can_break}
-use Rattle.gateway_model.specs.Events.{Before, Occurs, connections, hung_up, is_hang_up_of, is_open, listens, piece_of, stream, succeeds, IsShifted, open_connections, once}
-use Rattle.gateway_model.specs.declared.event.Event.{Event}
-use Rattle.gateway_model.specs.declared.event.Event.TheVariants.{Closing, Opening}
-use Rattle.gateway_model.specs.Past.{Mark, Past, arrivals, breaks, call_id, can_be_decided, coming_on, count_below, deciding, is_broken, is_out, is_undecided, mark_of, marked}
-use Rattle.gateway_model.specs.declared.id.CallId.{CallId}
+use Rattle.std.specs.Prelude.{◌≡◌, ◌+◌, ◌<◌, ◌≤◌, ◌∷◌, ◌++◌, if◌then◌else◌, ◌&&◌, ◌||◌, ◌==◌}
+use Rattle.gateway_theory.specs.lemmas.Names.{ℕ, suc, Bool, true, false, List, [], length, refl, sym, ap, ◌∙◌, arith, subst, nat_tests, not, nat_lt, ne_eqb, eq-eqb, eqb-true, ltb-false, lt-ltb, le-ltb, length-append, PlanRecord, BreakAsTheyMay, CanBreakAt, MayOccur, by_events, can_break, Before, Occurs, connections, hung_up, is_hang_up_of, is_open, listens, piece_of, stream, succeeds, IsShifted, open_connections, once, Event, Mark, Past, arrivals, breaks, count_below, is_broken, is_out, mark_of, marked, CallId, Placed, occurrences, HasRead, Partial, reader_value, ReplyEntry, History, JobValue, Occurrence, Opening, AllStand, Now, ConnectionValue, is_open_value, Adds, CoreValue, HasConns, HasStreams, StreamStands, StreamValue, new_stream}
+use Rattle.std.proofs.Common.{append-nil}
+use Rattle.gateway_model.specs.declared.event.Event.TheVariants.{Opening}
 use Rattle.gateway_theory.specs.lemmas.LimitLemmas.{out_started, unbegun}
 use Rattle.gateway_theory.specs.lemmas.Unborn.{unborn}
-use Rattle.gateway_model.specs.Starts.{Placed, occurrences}
 use Rattle.gateway_theory.specs.lemmas.Cases.{or_false, and_true, or_true}
 use Rattle.gateway_theory.specs.lemmas.CutLemmas.{at_same, connections_grow, listens_same, open_known, same_before, IsSame}
-use Rattle.http_pieces.specs.Reader.{HasRead, Partial, reader_value}
-use Rattle.gateway_model.specs.declared.entry.ReplyEntry.{ReplyEntry}
-use Rattle.gateway_model.specs.History.{History}
-use Rattle.gateway_model.specs.Job.{JobValue}
-use Rattle.gateway_model.specs.Occurrence.{Break, Occurrence, Opening}
 use Rattle.gateway_theory.specs.lemmas.Adding.{MayBreak, Newer, breaks_later, one_newer, StandsNow, adds_by, none_more}
-use Rattle.gateway_theory.specs.lemmas.SlotLemmas.{count_same}
 use Rattle.gateway_theory.specs.lemmas.ServedLemmas.{hung_still, text_still, stays_itself, stream_stays, streams_stay}
-use Rattle.gateway_theory.specs.Connection.{AllStand, Now, now_after, now_of}
-use Rattle.gateway_theory.specs.Values.{ConnectionValue, is_open_value}
-use Rattle.gateway_theory.specs.Core.{Adds, CoreValue, HasConns, HasStreams, StreamStands, StreamValue, new_stream}
 use Rattle.gateway_theory.specs.lemmas.ConnectionSteps.{all_step}
 use Rattle.gateway_theory.specs.lemmas.Events.{none_adds}
-use Rattle.gateway_model.specs.Occurrence as occurs
 use Rattle.gateway_model.specs.declared.event.Event.TheVariants as events
 
 -- ---- a connection that was not opened
 
 pub unopened_shut : (opened : List ℕ) (c : ℕ) (es : Before) → connections opened es ≤ c → is_open opened c es ≡ false
-unopened_shut opened c es le = by_it (is_open opened c es) refl
-  where
-    by_it : (b : Bool) → is_open opened c es ≡ b → is_open opened c es ≡ false
-    by_it true x = absurd (let lt = open_known opened c es x in omega (arith, lt, le))
-    by_it false x = x
+unopened_shut opened c es le = grind (arith, nat_tests, open_known)
 
 pub unopened_hung : (opened : List ℕ) (c : ℕ) (es : Before) → connections opened es ≤ c → hung_up opened c es ≡ false
 unopened_hung opened c [] le = refl
@@ -56,44 +33,15 @@ unopened_text opened c (e ∷ es) le =
 -- ---- on one that was not opened nothing breaks
 
 none_out : (id : CallId) (i : ℕ) (past : Past) → arrivals id.conn past ≤ id.request → is_out id i past ≡ false
-none_out id i past le = by_it (is_out id i past) refl
-  where
-    by_it : (b : Bool) → is_out id i past ≡ b → is_out id i past ≡ false
-    by_it false e = e
-    by_it true e = absurd (let lt = out_started id i past e in let none = unbegun id past (unborn id past le).not_begun in omega (arith, lt, none))
+none_out id i past le = grind (arith, nat_tests, out_started, unbegun, unborn)
 
 -- where nothing has come on it
 cannot_break : (c : ℕ) (opened : List ℕ) (e : Event) (es : Before) (past : Past) → connections opened es ≤ c → arrivals c past ≡ 0 → can_break c opened e es past ≡ false
-cannot_break c opened Opening es past le none = refl
-cannot_break c opened (events.Piece n bytes) es past le none = by_it (c == n) refl
-  where
-    by_it : (b : Bool) → (c == n) ≡ b → (b && listens opened n es) ≡ false
-    by_it false e = refl
-    by_it true e = ap (λ b. b && not (hung_up opened n es)) (unopened_shut opened n es (let same = eqb-true c n e in omega (arith, le, same)))
-cannot_break c opened (events.HangUp n) es past le none = by_it (c == n) refl
-  where
-    by_it : (b : Bool) → (c == n) ≡ b → (b && listens opened n es) ≡ false
-    by_it false e = refl
-    by_it true e = ap (λ b. b && not (hung_up opened n es)) (unopened_shut opened n es (let same = eqb-true c n e in omega (arith, le, same)))
-cannot_break c opened (events.Moment m) es past le none =
-    ap (λ n. nat_lt 0 (count_below n (λ k. is_undecided (call_id c k) past && is_some (deciding (call_id c k) (mark_of past (occurs.Moment m)) past)))) none
-cannot_break c opened (events.BranchResult n k i outcome) es past le none = by_it (n == c) refl
-  where
-    by_it : (b : Bool) → (n == c) ≡ b → (b && (is_out (call_id n k) i past && can_be_decided (call_id n k) past)) ≡ false
-    by_it false e = refl
-    by_it true e = ap (λ b. b && can_be_decided (call_id n k) past)
-        (none_out (call_id n k) i past (let few : arrivals n past ≡ 0 = ap (λ d. arrivals d past) (eqb-true n c e) ∙ none in omega (arith, few)))
-cannot_break c opened events.Drain es past le none =
-    ap (λ n. nat_lt 0 (count_below n (λ k. is_undecided (call_id c k) past && is_some (deciding (call_id c k) (mark_of past occurs.Drain) past)))) none
-cannot_break c opened (Closing n) es past le none = refl
+cannot_break c opened e es past h5 h6 = grind (arith, nat_tests, unopened_shut, eqb-true, none_out)
 
 -- fewer had come before
 none_before : (c : ℕ) (m : Mark) (past : Past) → arrivals c (m ∷ past) ≡ 0 → arrivals c past ≡ 0
-none_before c m past e = by_it (is_some (coming_on c m.what (is_broken c past))) e
-  where
-    by_it : (b : Bool) → (if b then suc (arrivals c past) else arrivals c past) ≡ 0 → arrivals c past ≡ 0
-    by_it true x = absurd (omega (arith, x))
-    by_it false x = x
+none_before c m past e = grind arith
 
 known_less : (opened : List ℕ) (later before : Before) → connections opened before ≤ connections opened (later ++ before)
 known_less opened [] before = omega arith
@@ -109,47 +57,22 @@ never_broke opened c es ((place, o) ∷ lived) le none (here, may) =
     before = none_before c (mark_of (marked (occurrences lived)) o) (marked (occurrences lived)) none
 
     by_break : (d : ℕ) → CanBreakAt d place opened es (marked (occurrences lived)) → (b : Bool) → (d == c) ≡ b → (d == c) ≡ false
-    by_break d b false e = e
-    by_break d b true e = absurd (
-        let here_is : connections opened (b.event ∷ b.before) ≤ connections opened es = subst (λ xs. connections opened (b.event ∷ b.before) ≤ connections opened xs) (sym b.events_are) (known_less opened b.later (b.event ∷ b.before)) in
-        let g = connections_grow opened b.event b.before in
-        let same = eqb-true d c e in
-        let clash : true ≡ false = sym b.can ∙ ap (λ x. can_break x opened b.event b.before (marked (occurrences lived))) same
-        ∙ cannot_break c opened b.event b.before (marked (occurrences lived)) (omega (arith, here_is, g, le)) before in cc)
+    by_break d h1 b h3 = grind (arith, nat_tests, known_less, connections_grow, eqb-true, cannot_break, before)
 
     by_each : (x : Occurrence) → MayOccur opened es place x (marked (occurrences lived)) → breaks c x ≡ false
-    by_each (Break d) b = by_break d b (d == c) refl
-    by_each Opening b = refl
-    by_each (occurs.Comes d x) b = refl
-    by_each (occurs.HangUp d) b = refl
-    by_each (occurs.Moment m) b = refl
-    by_each (occurs.Result of i r) b = refl
-    by_each occurs.Drain b = refl
-    by_each (occurs.Closing d) b = refl
+    by_each x h1 = grind (arith, nat_tests, by_break)
 
 -- ---- one more opening succeeds
 
 pub succeeds_more : (opened : List ℕ) (place at : ℕ) → succeeds (opened ++ place ∷ []) at ≡ (succeeds opened at || (place == at))
 succeeds_more [] place at = or_false (place == at)
-succeeds_more (p ∷ opened) place at = by_it (p == at) (succeeds_more opened place at)
-  where
-    by_it : (b : Bool) → succeeds (opened ++ place ∷ []) at ≡ (succeeds opened at || (place == at)) → (b || succeeds (opened ++ place ∷ []) at) ≡ ((b || succeeds opened at) || (place == at))
-    by_it true rest = refl
-    by_it false rest = rest
+succeeds_more (p ∷ opened) place at = grind (arith, succeeds_more opened place at)
 
 pub not_yet : (opened : List ℕ) (n at : ℕ) → ((place : ℕ) → succeeds opened place ≡ true → place < n) → n ≤ at → succeeds opened at ≡ false
-not_yet opened n at below le = by_it (succeeds opened at) refl
-  where
-    by_it : (b : Bool) → succeeds opened at ≡ b → succeeds opened at ≡ false
-    by_it true x = absurd (let lt = below at x in omega (arith, lt, le))
-    by_it false x = x
+not_yet opened n at below le = grind arith
 
 pub grown : (opened : List ℕ) (n : ℕ) → ((place : ℕ) → succeeds opened place ≡ true → place < n) → IsShifted n opened (opened ++ n ∷ [])
-grown opened n below = record {
-  before = λ t lt. succeeds_more opened n t ∙ ap (λ b. succeeds opened t || b) (ne_eqb n t (λ same. absurd (omega (arith, lt, same)))) ∙ or_false (succeeds opened t);
-  after = λ t lt. succeeds_more opened n (suc t) ∙ ap (λ b. b || (n == suc t)) (not_yet opened n (suc t) below (omega (arith, lt)))
-      ∙ ne_eqb n (suc t) (λ same. absurd (omega (arith, lt, same))) ∙ sym (not_yet opened n t below (omega (arith, lt)));
-}
+grown opened n below = grind (arith, nat_tests, succeeds_more, ne_eqb, or_false, not_yet)
 
 pub occurs_before : (plans : List PlanRecord) (opened shifted : List ℕ) (n : ℕ) (es : Before) (past : List Placed) → length es ≤ n → IsShifted n opened shifted
     → Occurs plans shifted es past → Occurs plans opened es past
@@ -162,22 +85,12 @@ occurs_before plans opened shifted n (e ∷ es) past le h (before, o, (os, at, i
 
 -- the openings without the last, which are those with it up to there
 pub shrunk : (opened : List ℕ) (n : ℕ) → ((place : ℕ) → succeeds opened place ≡ true → place < n) → IsShifted n (opened ++ n ∷ []) opened
-shrunk opened n below = record {
-  before = λ t lt. sym ((grown opened n below).before t lt);
-  after = λ t lt. not_yet opened n (suc t) below (omega (arith, lt))
-      ∙ sym (succeeds_more opened n t ∙ ap (λ b. b || (n == t)) (not_yet opened n t below (omega (arith, lt))) ∙ ne_eqb n t (λ same. omega (arith, lt, same)));
-}
+shrunk opened n below = grind (arith, nat_tests, grown, not_yet, succeeds_more, ne_eqb)
 
 -- an event can break the same connections, where the same ones listen before it
 break_same : (c : ℕ) (opened later : List ℕ) (e : Event) (before : Before) (p : Past) → ((n : ℕ) → listens later n before ≡ listens opened n before)
     → can_break c opened e before p ≡ true → can_break c later e before p ≡ true
-break_same c opened later Opening before p same h = h
-break_same c opened later (events.Piece n bytes) before p same h = ap (λ b. (c == n) && b) (same n) ∙ h
-break_same c opened later (events.HangUp n) before p same h = ap (λ b. (c == n) && b) (same n) ∙ h
-break_same c opened later (events.Moment m) before p same h = h
-break_same c opened later (events.BranchResult n k i r) before p same h = h
-break_same c opened later events.Drain before p same h = h
-break_same c opened later (Closing n) before p same h = h
+break_same c opened later e before p h6 h7 = grind (arith, nat_tests)
 
 -- what connections could break before can do so with one opening more
 pub can_more : (opened : List ℕ) (es : Before) → ((place : ℕ) → succeeds opened place ≡ true → place < length es) → (c place : ℕ) (p : Past)
@@ -194,8 +107,7 @@ can_more opened es below c place p b = record {
 }
   where
     shorter : (later : Before) (x : Event) (before : Before) → es ≡ later ++ x ∷ before → length before ≤ length es
-    shorter later x before is =
-        let whole : length es ≡ length later + length (x ∷ before) = ap (λ (xs : Before). length xs) is ∙ length-append later (x ∷ before) in omega (arith, whole)
+    shorter later x before h3 = grind (arith, nat_tests, length-append)
 
 -- ---- the openings that succeeded, and this one
 
@@ -216,59 +128,17 @@ module _ (opened : List ℕ) (es : Before) (below : (place : ℕ) → succeeds o
   total = ap (λ b. if b then suc (connections more es) else connections more es) succeeded ∙ (let e = was in omega (arith, e))
 
   places : (place : ℕ) (b : Bool) → succeeds opened place ≡ b → succeeds more place ≡ true → place < length (events.Opening ∷ es)
-  places place true x its = let lt = below place x in omega (arith, lt)
-  places place false x its =
-      let here : (length es == place) ≡ true = sym (succeeds_more opened (length es) place ∙ ap (λ b. b || (length es == place)) x) ∙ its in
-      let at : length es ≡ place = eqb-true (length es) place here in omega (arith, at)
+  places place b h2 h3 = grind (arith, nat_tests, succeeds_more, eqb-true)
 
   count_other : (c : ℕ) → (count == c) ≡ false → nat_lt c (count + 1) ≡ nat_lt c count
-  count_other c other = ⊎_elim
-      (λ (lt : nat_lt c count ≡ true). let x = ltb-true c count lt in lt-ltb c (count + 1) (omega (arith, x)) ∙ sym lt)
-      (λ (ge : nat_lt c count ≡ false). let x = ltb-false c count ge in le-ltb c (count + 1) (omega (arith, x, apart)) ∙ sym ge)
-      (cases_Bool (nat_lt c count))
-    where
-      apart : count ≡ c → ⊥
-      apart at = let clash : true ≡ false = sym (eq-eqb count c at) ∙ other in absurd (cc)
+  count_other c other = grind arith
 
   open_other : (c : ℕ) → (count == c) ≡ false → is_open more c (events.Opening ∷ es) ≡ is_open opened c es
-  open_other c other = by (nat_lt c (connections more es)) refl
-    where
-      by : (b : Bool) → nat_lt c (connections more es) ≡ b → (if b then is_open more c es && true else nat_lt c (connections more (events.Opening ∷ es))) ≡ is_open opened c es
-      by true x = and_true (is_open more c es) ∙ same.open_is c
-      by false x =
-          let ge : connections more es ≤ c = ltb-false c (connections more es) x in
-          let le : connections opened es ≤ c = let e = same.connections_are in omega (arith, ge, e) in
-          ap (nat_lt c) total ∙ count_other c other ∙ ap (nat_lt c) (sym was) ∙ x ∙ sym (unopened_shut opened c es le)
+  open_other c other = grind (arith, nat_tests, and_true, same, ltb-false, total, count_other, was, unopened_shut)
 
   -- the new connection
   new_each : (c : ℕ) (v : ConnectionValue) (s : StreamValue) → HasRead (reader_value 0 (Partial [])) [] [] → count ≡ c → StreamStands opened es count c v s → StreamStands more (events.Opening ∷ es) (count + 1) c v new_stream
-  new_each c v s fresh at h = record {
-    unopened = λ new. absurd (let clash : true ≡ false = sym below_now ∙ new in cc);
-    open_is = opens (nat_lt c (connections more es)) (ap (nat_lt c) was ∙ unborn) ∙ ap (nat_lt c) total ∙ below_now ∙ sym (ap (λ b. b && not v.closed) below_now ∙ ap (λ b. true && not b) blank.1);
-    hung_is = λ there on. sym (hung_still more c events.Opening es refl ∙ same.hung_is c ∙ unopened_hung opened c es le);
-    has_come = λ there on. record {
-      given = [];
-      reads = subst (λ text. HasRead (reader_value 0 (Partial [])) text []) (sym (text_still more c events.Opening es refl ∙ same.stream_is c ∙ unopened_text opened c es le)) fresh;
-      settled = refl;
-      came = blank.0;
-    };
-  }
-    where
-      below_now : nat_lt c (count + 1) ≡ true
-      below_now = lt-ltb c (count + 1) (omega (arith, at))
-
-      unborn : nat_lt c count ≡ false
-      unborn = le-ltb c count (omega (arith, at))
-
-      blank : (v.taken + length v.slots ≡ 0) × (v.closed ≡ false)
-      blank = h.unopened unborn
-
-      le : connections opened es ≤ c
-      le = let e = count_is in omega (arith, at, e)
-
-      opens : (b : Bool) → b ≡ false → (if b then is_open more c es && true else nat_lt c (connections more (events.Opening ∷ es))) ≡ nat_lt c (connections more (events.Opening ∷ es))
-      opens true e = absurd (cc)
-      opens false e = refl
+  new_each c v s fresh at h = grind (arith, nat_tests, was, unborn, total, hung_still, same, unopened_hung, text_still, unopened_text, lt-ltb, le-ltb)
 
   each_opened : (c : ℕ) (v : ConnectionValue) (s : StreamValue) → HasRead (reader_value 0 (Partial [])) [] [] → (b : Bool) → (count == c) ≡ b → StreamStands opened es count c v s
       → StreamStands more (events.Opening ∷ es) (count + 1) c v (if b then new_stream else s)
@@ -289,9 +159,7 @@ module _ (opened : List ℕ) (es : Before) (below : (place : ℕ) → succeeds o
 -- of what is kept of the calls nothing changes
 quiet : (n : Now) (conns : ℕ → ConnectionValue) (taken : ℕ → List ReplyEntry) (handed waiting : List JobValue) (os : List Occurrence) → AllStand n conns taken handed waiting os
     → AllStand n conns taken handed waiting (Opening ∷ os)
-quiet n conns taken handed waiting os h =
-    subst (λ m. AllStand m conns taken handed waiting (Opening ∷ os)) (ap (λ m. now_of m n.drained) (omega arith))
-    (subst (λ js. AllStand (now_after Opening n) conns taken handed js (Opening ∷ os)) (append-nil waiting) (all_step n conns taken handed waiting os Opening h (λ c. tt)))
+quiet n conns taken handed waiting os h = grind (arith, nat_tests, append-nil, all_step)
 
 -- a connection more is open
 abbrev pub opens : CoreValue → CoreValue
@@ -327,6 +195,4 @@ module _ (h : History) (v : CoreValue) where
 
 pub open_count : (opened : List ℕ) (es : Before) (count : ℕ) (conns : ℕ → ConnectionValue) (streams : ℕ → StreamValue) → HasStreams opened es count conns streams
     → open_connections opened es ≡ count_below count (λ c. is_open_value count c (conns c))
-open_count opened es count conns streams h =
-    ap (λ n. count_below n (λ c. is_open opened c es)) h.count_is
-    ∙ count_same count (λ c. is_open opened c es) (λ c. is_open_value count c (conns c)) (λ c within. (h.each c).open_is)
+open_count opened es count conns streams h = grind arith

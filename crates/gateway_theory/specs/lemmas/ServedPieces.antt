@@ -1,71 +1,28 @@
 -- What a piece of a connection's stream adds.
-use Rattle.std.proofs.Common.{◌≡◌, ℕ, suc, ◌+◌, ◌<◌, ◌≤◌, Bool, true, false, List, [], ◌∷◌, ◌++◌, take, drop, length, Result, Ok, Err, refl, sym, ap, ◌∙◌, arith, inl, inr, ⊎_elim, subst, append-nil, ◌*◌, map, Some, append_assoc}
-use Rattle.std.specs.Prelude.{◌⊎◌, ◌||◌, ◌==◌, MatchBool, if◌then◌else◌, nat_lt, reverse, ◌&&◌, not}
-use Rattle.std.proofs.lemmas.Bool.{eq-eqb, eqb-true, ne_eqb}
-use Rattle.std.proofs.lemmas.List.{length-append, append_cancel_left, reverse-append, append-nil}
+use Rattle.std.specs.Prelude.{◌≡◌, ◌+◌, ◌<◌, ◌≤◌, ◌∷◌, ◌++◌, ◌⊎◌, ◌||◌, ◌==◌, if◌then◌else◌, ◌&&◌}
+use Rattle.gateway_theory.specs.lemmas.Names.{ℕ, suc, Bool, true, false, List, [], length, refl, sym, ap, ◌∙◌, arith, inr, subst, map, append_assoc, nat_tests, MatchBool, nat_lt, reverse, not, eq-eqb, eqb-true, ne_eqb, length-append, append_cancel_left, reverse-append, append-nil, Done, HasRead, HasReadTo, Partial, ReaderValue, Reading, Stopped, Waiting, is_over, after_request, HttpRequest, closes, is_v10, most_requests, Closed, RefusedBy, Requests, StreamEnd, refusals, is_waiting, Adds, CoreValue, HasCome, HasConns, HasStreams, StreamStands, StreamValue, is_heard, refusal_gained, Gains, piece_of, requests_gained, Before, listens, stream, hung_up, PlanRecord, Piece, Coming, Comes, Occurrence, RequestLaws, without_breaks, ReplyEntry, History, JobValue, occurrences, calls_arrived, calls_in, AllStand, Now, all_after, all_started, arriving, breaks_of, entered, next, now_after, now_of, stepped, ConnectionValue, is_open_value}
+use Rattle.std.proofs.Common.{append-nil}
 use Rattle.http_pieces.specs.declared.refusal.Refusal.{Refusal}
-use Rattle.http_pieces.specs.Cut.{Complete, Cut, Incomplete, IsCutText, Refused, cut_after, skip_pairs, with_head, without_block, without_head, most_head}
+use Rattle.http_pieces.specs.Cut.{Complete, Cut, IsCutText}
 use Rattle.http_pieces.specs.Fields.{asks_to_close}
-use Rattle.httparse.specs.Grammar.{RequestHead}
-use Rattle.http_pieces.specs.Head.{asks_with, request_kind, request_with}
-use Rattle.http_pieces.specs.Reader.{Done, HasRead, HasReadTo, Partial, ReaderValue, Reading, Stopped, Waiting, is_over, after_request, ending_after, left_of}
-use Rattle.http_pieces.specs.Request.{HttpRequest, closes, is_v10, most_requests}
-use Rattle.http_pieces.specs.Requests.{Closed, Open, RefusedBy, Requests, StreamEnd}
-use Rattle.gateway_theory.specs.Core.{refusals, is_waiting, IsKnown, Adds, CoreValue, HasCome, HasConns, HasStreams, StreamStands, StreamValue, is_heard}
-use Rattle.gateway_model.specs.Events.{refusal_gained, Gains, piece_of, requests_gained, Before, listens, stream, hung_up, is_open}
-use Rattle.call_plan.specs.Plan.{PlanRecord}
-use Rattle.gateway_model.specs.declared.event.Event.TheVariants.{Piece}
-use Rattle.gateway_model.specs.Occurrence.{Coming, Comes, Occurrence}
-use Rattle.gateway_theory.specs.RequestLaws.{RequestLaws}
-use Rattle.gateway_model.specs.Own.{without_breaks}
+use Rattle.http_pieces.specs.Head.{request_kind}
+use Rattle.gateway_theory.specs.Core.{IsKnown}
 use Rattle.gateway_theory.specs.lemmas.Adding.{AreBreaks, breaks_join, without_both, MayBreak, Newer, without_these, BeginsFew, StandsNow, adds_event}
-use Rattle.gateway_model.specs.declared.entry.ReplyEntry.{ReplyEntry}
-use Rattle.gateway_model.specs.History.{History}
-use Rattle.gateway_model.specs.Job.{JobValue}
-use Rattle.gateway_model.specs.Starts.{occurrences}
-use Rattle.gateway_theory.specs.Arrivals.{calls_arrived, calls_in}
 use Rattle.gateway_theory.specs.lemmas.EventLemmas.{gains_unique}
 use Rattle.gateway_theory.specs.lemmas.ServedLemmas.{hung_still, open_still, Stays, is_listening, stays_itself, stream_stays}
-use Rattle.gateway_theory.specs.Connection.{AllStand, Now, all_after, all_started, arriving, breaks_of, entered, next, now_after, now_of, step, stepped}
-use Rattle.gateway_theory.specs.Values.{ConnectionValue, is_open_value}
+use Rattle.gateway_theory.specs.Connection.{step}
 use Rattle.gateway_theory.specs.lemmas.ConnectionSteps.{all_step}
 use Rattle.gateway_theory.specs.lemmas.Broadcast.{all_broken, breaks_stand}
 use Rattle.gateway_theory.specs.lemmas.Events.{MayAll, broken_stays, came, none_adds}
 
 -- ---- a stream has at most 100 requests
 
--- the number of the message
-abbrev number_in : Cut Refusal HttpRequest → ℕ
-number_in Incomplete = 0
-number_in (Refused r) = 0
-number_in (Complete q rest) = q.number
-
--- whether a body is whole or not, a message that is has the number that its head asks for
-body_numbered : (b : Bool) (whole after : Cut Refusal HttpRequest) (q : HttpRequest) (rest : List ℕ) → whole ≡ Complete q rest → whole ≡ (if b then Incomplete else after) → q.number ≡ number_in after
-body_numbered true whole after q rest is e = absurd (let clash = sym is ∙ e in cc)
-body_numbered false whole after q rest is e = ap number_in (sym is ∙ e)
-
-head_numbered : (k : ℕ) (whole : Cut Refusal HttpRequest) (q : HttpRequest) (rest after : List ℕ) (head : RequestHead) (r : Result ℕ Refusal) → whole ≡ Complete q rest
-    → whole ≡ cut_after (asks_with r (request_with k head)) after → q.number ≡ k
-head_numbered k whole q rest after head (Err refusal) is e = absurd (let clash = sym is ∙ e in cc)
-head_numbered k whole q rest after head (Ok size) is e =
-    body_numbered (nat_lt (length after) size) whole (Complete (request_with k head (take size after)) (drop size after)) q rest is e
-
 -- request k of a text has that number
 numbered : (k : ℕ) (text : List ℕ) (whole : Cut Refusal HttpRequest) (q : HttpRequest) (rest : List ℕ) → whole ≡ Complete q rest → IsCutText (request_kind k) text whole → q.number ≡ k
-numbered k text whole q rest is (without_block none c_is) = by_size (nat_lt (length text) most_head) c_is
-  where
-    by_size : (b : Bool) → whole ≡ (if b then Incomplete else Refused (request_kind k).too_large) → q.number ≡ k
-    by_size true e = absurd (let clash = sym is ∙ e in cc)
-    by_size false e = absurd (let clash = sym is ∙ e in cc)
-numbered k text whole q rest is (without_head n block none c_is) = absurd (let clash = sym is ∙ c_is in cc)
-numbered k text whole q rest is (with_head n a block head c_is) =
-    head_numbered k whole q rest (drop n text) head.head _ is (c_is ∙ ap (λ x. cut_after x (drop n text)) head.asks_is)
+numbered k text whole q rest h5 h6 = grind (arith, nat_tests)
 
 third_off : (a b c : Bool) → (a || b || c) ≡ false → c ≡ false
-third_off true b c e = absurd (cc)
-third_off false true c e = absurd (cc)
-third_off false false c e = e
+third_off a b c h3 = grind (arith, nat_tests)
 
 -- a text whose first request is number k has so many, and fewer where they do not end by the last
 few_requests : (k : ℕ) (text : List ℕ) (given : List HttpRequest) (ending : StreamEnd) → k < most_requests → Requests k text given ending
@@ -76,72 +33,31 @@ few_requests k text (q ∷ given) ending room (rest, cut, by_close) = by_it (clo
     by_it : (b : Bool) → closes q ≡ b → (closes q ≡ false → (q.number + 1 == most_requests) ≡ false) → (suc k < most_requests → Requests (suc k) rest given ending → (length given + suc k ≤ most_requests) × ((ending ≡ Closed) ⊎ (length given + suc k < most_requests)))
         → MatchBool b ((given ≡ []) × (ending ≡ Closed)) (Requests (suc k) rest given ending)
         → (suc (length given) + k ≤ most_requests) × ((ending ≡ Closed) ⊎ (suc (length given) + k < most_requests))
-    by_it true is last rec e = (let none : length given ≡ 0 = ap (λ (xs : List HttpRequest). length xs) e.0 in omega (arith, room, none), inl e.1)
-    by_it false is last rec more =
-        let open_now : (q.number + 1 == most_requests) ≡ false = last is in
-        let not_last : k + 1 ≡ most_requests → ⊥ = λ e.
-        let clash : true ≡ false = sym (eq-eqb (q.number + 1) most_requests (ap (λ n. n + 1) (numbered k (skip_pairs text) (Complete q rest) q rest refl cut) ∙ e)) ∙ open_now in cc in
-        let all = rec (omega (arith, room, not_last)) more in (
-          (let a = all.0 in omega (arith, a)),
-          ⊎_elim (λ (c : ending ≡ Closed). inl c) (λ (lt : length given + suc k < most_requests). inr (omega (arith, lt))) all.1,
-        )
+    by_it b h1 h2 h3 h4 = search (arith, nat_tests, eq-eqb, numbered)
 
 -- so many were given, and a refusal counts
 pub few_given : (reader : ReaderValue) (text : List ℕ) (given : List HttpRequest) → HasRead reader text given → length given + refusals reader.reading ≤ most_requests
-few_given reader text given h = by_reading reader.reading h.reads
-  where
-    by_reading : (r : Reading) → HasReadTo r text given → length given + refusals r ≤ most_requests
-    by_reading (Partial left) reads = let few = (few_requests 0 text given (Open left) (omega arith) reads).0 in omega (arith, few)
-    by_reading (Waiting q) reads =
-        let few = (few_requests 0 text (given ++ q ∷ []) _ (omega arith) reads).0 in omega (arith, few, length-append given (q ∷ []))
-    by_reading (Stopped refusal) reads = ⊎_elim
-        (λ (c : RefusedBy refusal ≡ Closed). absurd (cc))
-        (λ (lt : length given + 0 < most_requests). omega (arith, lt))
-        (few_requests 0 text given (RefusedBy refusal) (omega arith) reads).1
-    by_reading Done reads = let few = (few_requests 0 text given Closed (omega arith) reads).0 in omega (arith, few)
+few_given reader text given h = grind (arith, nat_tests, few_requests, length-append)
 
 pub no_refusal : (r : Reading) → is_over r ≡ false → refusals r ≡ 0
-no_refusal (Partial left) e = refl
-no_refusal (Waiting q) e = refl
-no_refusal (Stopped refusal) e = absurd (cc)
-no_refusal Done e = absurd (cc)
+no_refusal r h1 = grind (arith, nat_tests)
 
 -- ---- what a piece brings
 
 -- the reader is in the middle of a request
 pub midway : (r : Reading) → is_over r ≡ false → is_waiting r ≡ false → (left : List ℕ) × (r ≡ Partial left)
-midway (Partial left) over waiting = (left, refl)
-midway (Waiting q) over waiting = absurd (cc)
-midway (Stopped r) over waiting = absurd (cc)
-midway Done over waiting = absurd (cc)
-
-pub none_gained : (q : HttpRequest) (left : List ℕ) → refusal_gained (Open left) (ending_after q) ≡ []
-none_gained q left = by_it (closes q)
-  where
-    by_it : (b : Bool) → refusal_gained (Open left) (if b then Closed else Open []) ≡ []
-    by_it true = refl
-    by_it false = refl
+midway r h1 h2 = grind (arith, nat_tests)
 
 pub after_settled : (q : HttpRequest) (r : Reading) → r ≡ after_request q → (is_waiting r ≡ false) × (refusals r ≡ 0)
-after_settled q r e = subst (λ x. (is_waiting x ≡ false) × (refusals x ≡ 0)) (sym e) (by_it (closes q))
-  where
-    by_it : (b : Bool) → (is_waiting (if b then Done else Partial []) ≡ false) × (refusals (if b then Done else Partial []) ≡ 0)
-    by_it true = (refl, refl)
-    by_it false = (refl, refl)
+after_settled q r e = grind arith
 
 -- ---- no bytes
 
 pub no_bytes : (c n : ℕ) → piece_of c (Piece n []) ≡ []
-no_bytes c n = by_it (n == c)
-  where
-    by_it : (b : Bool) → if◌then◌else◌ {A = List ℕ} b [] [] ≡ []
-    by_it true = refl
-    by_it false = refl
+no_bytes c n = grind arith
 
 none_refused : (e : StreamEnd) → refusal_gained e e ≡ []
-none_refused (Open left) = refl
-none_refused (RefusedBy r) = refl
-none_refused Closed = refl
+none_refused e = grind (arith, nat_tests)
 
 pub nothing_gained : RequestLaws → (plans : List PlanRecord) (text : List ℕ) (gained : List Coming) → Gains plans text (text ++ []) gained → gained ≡ []
 nothing_gained laws plans text gained g =
@@ -151,13 +67,7 @@ nothing_gained laws plans text gained g =
 
 -- what was read has a list of requests
 pub read_requests : (reader : ReaderValue) (text : List ℕ) (given : List HttpRequest) → HasRead reader text given → IsKnown text
-read_requests reader text given h = by_reading reader.reading h.reads
-  where
-    by_reading : (r : Reading) → HasReadTo r text given → IsKnown text
-    by_reading (Partial left) x = (given, Open left, x)
-    by_reading (Waiting q) x = (given ++ q ∷ [], ending_after q, x)
-    by_reading (Stopped r) x = (given, RefusedBy r, x)
-    by_reading Done x = (given, Closed, x)
+read_requests reader text given h = grind arith
 
 -- what comes is no break
 pub without_comings : (c : ℕ) (xs : List Coming) → without_breaks (reverse (map (Comes c) xs)) ≡ reverse (map (Comes c) xs)
@@ -173,53 +83,16 @@ no_comings P c (x ∷ xs) os = subst (λ us. AreBreaks P us os) (sym (reverse-ap
     (breaks_join P (reverse (map (Comes c) xs)) (Comes c x ∷ []) os (no_comings P c xs (Comes c x ∷ os)) (tt, tt))
 
 pub text_other : (opened : List ℕ) (c n : ℕ) (bytes : List ℕ) (es : Before) → (n == c) ≡ false → stream opened c (Piece n bytes ∷ es) ≡ stream opened c es
-text_other opened c n bytes es ne = by_it (listens opened c es)
-  where
-    by_it : (b : Bool) → (if b then stream opened c es ++ (if n == c then bytes else []) else stream opened c es) ≡ stream opened c es
-    by_it true = ap (λ b. stream opened c es ++ (if b then bytes else [])) ne ∙ append-nil (stream opened c es)
-    by_it false = refl
+text_other opened c n bytes es ne = grind (arith, nat_tests, append-nil)
 
 pub text_off : (opened : List ℕ) (c n : ℕ) (bytes : List ℕ) (es : Before) → listens opened n es ≡ false → stream opened c (Piece n bytes ∷ es) ≡ stream opened c es
-text_off opened c n bytes es off = by_number (n == c) refl
-  where
-    by_number : (b : Bool) → (n == c) ≡ b → stream opened c (Piece n bytes ∷ es) ≡ stream opened c es
-    by_number false e = text_other opened c n bytes es e
-    by_number true e = ap (λ b. if b then stream opened c es ++ (if n == c then bytes else []) else stream opened c es) (ap (λ m. listens opened m es) (sym (eqb-true n c e)) ∙ off)
+text_off opened c n bytes es off = grind (arith, nat_tests, text_other, eqb-true)
 
 pub text_on : (opened : List ℕ) (c n : ℕ) (bytes : List ℕ) (es : Before) → listens opened n es ≡ true → stream opened c (Piece n bytes ∷ es) ≡ (if c == n then stream opened c es ++ bytes else stream opened c es)
-text_on opened c n bytes es on = by_number (n == c) refl
-  where
-    turned : (b : Bool) → (n == c) ≡ b → (c == n) ≡ b
-    turned true e = eq-eqb c n (sym (eqb-true n c e))
-    turned false e = ne_eqb c n (λ same. let clash : true ≡ false = sym (eq-eqb n c (sym same)) ∙ e in absurd (cc))
-
-    by_number : (b : Bool) → (n == c) ≡ b → stream opened c (Piece n bytes ∷ es) ≡ (if c == n then stream opened c es ++ bytes else stream opened c es)
-    by_number false e = text_other opened c n bytes es e ∙ sym (ap (λ b. if b then stream opened c es ++ bytes else stream opened c es) (turned false e))
-    by_number true e =
-        ap (λ b. if b then stream opened c es ++ (if n == c then bytes else []) else stream opened c es) (ap (λ m. listens opened m es) (sym (eqb-true n c e)) ∙ on)
-        ∙ ap (λ b. stream opened c es ++ (if b then bytes else [])) e ∙ sym (ap (λ b. if b then stream opened c es ++ bytes else stream opened c es) (turned true e))
+text_on opened c n bytes es on = grind (arith, nat_tests, eq-eqb, eqb-true, ne_eqb, text_other)
 
 pub over_more : RequestLaws → (reader : ReaderValue) (text more : List ℕ) (given : List HttpRequest) → is_over reader.reading ≡ true → HasRead reader text given → HasRead reader (text ++ more) given
-over_more laws reader text more given over h = record {
-  count = h.count;
-  reads = by_reading reader.reading over h.reads;
-  looked = record {
-    twice = let few : reader.looked ≤ 2 * length text = h.looked.twice in let size : length (text ++ more) ≡ length text + length more = length-append text more in omega (arith, few, size);
-    once = λ left left_is none. absurd (over_left reader.reading over left left_is);
-  };
-}
-  where
-    by_reading : (r : Reading) → is_over r ≡ true → HasReadTo r text given → HasReadTo r (text ++ more) given
-    by_reading (Partial left) e x = absurd (cc)
-    by_reading (Waiting q) e x = absurd (cc)
-    by_reading (Stopped r) e x = laws.refused_stays 0 text more given r x
-    by_reading Done e x = laws.closed_stays 0 text more given x
-
-    over_left : (r : Reading) → is_over r ≡ true → (left : List ℕ) → left_of r ≡ Some left → ⊥
-    over_left (Partial l) e left x = absurd (cc)
-    over_left (Waiting q) e left x = absurd (cc)
-    over_left (Stopped r) e left x = absurd (cc)
-    over_left Done e left x = absurd (cc)
+over_more laws reader text more given over h = grind (arith, nat_tests, length-append)
 
 -- a stream that is over gains nothing
 pub over_gains : RequestLaws → (plans : List PlanRecord) (reader : ReaderValue) (text more : List ℕ) (given : List HttpRequest) → is_over reader.reading ≡ true → HasRead reader text given → Gains plans text (text ++ more) []
@@ -274,10 +147,8 @@ module _ (n : ℕ) (bytes : List ℕ) (h : History) (v w : CoreValue) (plans_are
           → Newer (MayBreak h.opened (Piece n bytes) h.events) (StandsNow h w) os us
       by_gains c us stands os (gained, gains, os_are) = let x = step gained us c gains stands in record {
         newer = reverse (map (Comes n) gained) ++ breaks_of cs;
-        same = without_both (reverse (map (Comes n) gained)) (breaks_of cs) ∙ ap (λ xs. without_breaks (reverse (map (Comes n) gained)) ++ xs) (without_these cs)
-            ∙ append-nil (without_breaks (reverse (map (Comes n) gained))) ∙ without_comings n gained ∙ ap (λ xs. reverse xs) (sym os_are);
-        may = breaks_join (MayBreak h.opened (Piece n bytes) h.events) (reverse (map (Comes n) gained)) (breaks_of cs) us
-            (no_comings (MayBreak h.opened (Piece n bytes) h.events) n gained (breaks_of cs ++ us)) x.0;
+        same = grind (arith, nat_tests, without_both, without_these, append-nil, without_comings);
+        may = grind (arith, nat_tests, breaks_join, MayBreak, no_comings);
         stands = subst (StandsNow h w) (sym (append_assoc (reverse (map (Comes n) gained)) (breaks_of cs) us)) x.1;
       }
 
@@ -312,10 +183,7 @@ over_reads laws plans reader bytes over text given read = record {
 }
   where
     not_waiting : (r : Reading) → is_over r ≡ true → is_waiting r ≡ false
-    not_waiting (Partial left) e = absurd (cc)
-    not_waiting (Waiting q) e = absurd (cc)
-    not_waiting (Stopped r) e = refl
-    not_waiting Done e = refl
+    not_waiting r h1 = grind (arith, nat_tests)
 
 abbrev pub read_if : Bool → ReaderValue → StreamValue → StreamValue
 read_if b new s = if b then record s { reader = new } else s
@@ -327,22 +195,10 @@ module _ (opened : List ℕ) (n : ℕ) (bytes : List ℕ) (es : Before) (count c
   value_same = ap (λ b. nat_lt c count && not b) f.closed_is
 
   text_is : stream opened c (Piece n bytes ∷ es) ≡ stream opened c es ++ bytes
-  text_is =
-      let at : n ≡ c = eqb-true n c here in
-      text_on opened c n bytes es (ap (λ m. listens opened m es) at ∙ is_listening opened es count c v s h there on)
-      ∙ ap (λ b. if b then stream opened c es ++ bytes else stream opened c es) (eq-eqb c n (sym at))
+  text_is = grind arith
 
   come_more : w.broken ≡ false → HasCome v s.reader (stream opened c es) → HasCome w new (stream opened c es ++ bytes)
-  come_more whole come = let b = reads (stream opened c es) come.given come.reads in record {
-    given = b.now_given;
-    reads = b.reads;
-    settled = b.settled;
-    came =
-        let first : next v ≡ length come.given + refusals s.reader.reading = come.came in
-        let grown : next w ≡ next v + length gained = f.next_is whole in
-        let counted : length b.now_given + refusals new.reading ≡ length come.given + refusals s.reader.reading + length gained = b.count in
-        omega (arith, first, grown, counted);
-  }
+  come_more whole come = grind arith
 
   whole_part : (a b : Bool) → (not a && b) ≡ true → a ≡ false
   whole_part false b e = refl
@@ -369,31 +225,15 @@ module _ (opened : List ℕ) (n : ℕ) (bytes : List ℕ) (es : Before) (count :
       (subst (λ m. ReadsTo plans (streams m).reader bytes new gained) at reads) (subst (λ m. Fed (length gained) (conns m) (later m)) at this) h is
 
   pub streams_fed : HasStreams opened es count conns streams → HasStreams opened (Piece n bytes ∷ es) count later (λ c. read_if (n == c) new (streams c))
-  streams_fed h = record {
-    below = λ place its. let lt = h.below place its in omega (arith, lt);
-    count_is = h.count_is;
-    each = λ c. each_fed c (n == c) refl (h.each c);
-  }
+  streams_fed h = grind (arith, nat_tests, each_fed)
 
 -- ---- nothing comes, or one request or refusal
 
 enters_fed : (n : Now) (c : ℕ) (x : Coming) (v : ConnectionValue) → Fed 1 v (step n (Comes c x) v).conn
-enters_fed n c x v = by v.broken refl
-  where
-    by : (b : Bool) → v.broken ≡ b → Fed 1 v (if b then stepped v [] else stepped (entered (arriving n x v) v) (arriving n x v).jobs).conn
-    by true is = record { closed_is = refl; broken_was = λ e. e; next_is = λ whole. absurd (let clash : true ≡ false = sym is ∙ whole in cc) }
-    by false is = record {
-      closed_is = refl;
-      broken_was = λ e. e;
-      next_is = λ whole. let size : length (v.slots ++ (arriving n x v).reply ∷ []) ≡ length v.slots + 1 = length-append v.slots ((arriving n x v).reply ∷ []) in omega (arith, size);
-    }
+enters_fed n c x v = grind (arith, nat_tests, length-append)
 
 fed_behind : (more : ℕ) (u v w : ConnectionValue) → Stays u v → Fed more v w → Fed more u w
-fed_behind more u v w g f = record {
-  closed_is = f.closed_is ∙ g.closed_is;
-  broken_was = λ e. g.broken_was (f.broken_was e);
-  next_is = λ e. let a = f.next_is e in let b = g.next_is in omega (arith, a, b);
-}
+fed_behind more u v w g f = grind arith
 
 -- the bytes were read so far
 abbrev pub read_to : ℕ → ReaderValue → CoreValue → CoreValue
@@ -438,9 +278,7 @@ module _ (laws : RequestLaws) (n : ℕ) (bytes : List ℕ) (h : History) (v : Co
       others c ne = subst (λ b. Stays (v.conns c) (if b then (step v.now (Comes n x) (all_broken v.now cs v.conns c)).conn else all_broken v.now cs v.conns c)) (sym ne) (broken_stays v.now v.conns cs c)
 
       not_closed : (a b : Bool) → (a && not b) ≡ true → b ≡ false
-      not_closed true false e = refl
-      not_closed true true e = absurd (cc)
-      not_closed false b e = absurd (cc)
+      not_closed a b h2 = grind (arith, nat_tests)
 
       open_still_then : (d : ℕ) → n ≡ d → (all_broken v.now cs v.conns d).closed ≡ false
       open_still_then d at = (broken_stays v.now v.conns cs d).closed_is ∙ ap (λ m. (v.conns m).closed) (sym at) ∙ not_closed (nat_lt n v.opened) (v.conns n).closed there
@@ -459,8 +297,7 @@ module _ (n : Now) (conns : ℕ → ConnectionValue) (taken : ℕ → List Reply
       none = ap (λ b. (if b then stepped (conns c) [] else stepped (entered (arriving n x (conns c)) (conns c)) (arriving n x (conns c)).jobs).jobs) broke
 
       same : (d : ℕ) (b : Bool) → (c == d) ≡ b → (if b then (step n (Comes c x) (conns d)).conn else conns d) ≡ conns d
-      same d true is = ap (λ b. (if b then stepped (conns d) [] else stepped (entered (arriving n x (conns d)) (conns d)) (arriving n x (conns d)).jobs).conn) (ap (λ m. (conns m).broken) (sym (eqb-true c d is)) ∙ broke)
-      same d false is = refl
+      same d b h2 = grind (arith, nat_tests)
 
   all_quiet : (xs : List Coming) (os : List Occurrence) → AllStand n conns taken handed waiting os → AllStand n conns taken handed waiting (reverse (map (Comes c) xs) ++ os)
   all_quiet [] os h = h
@@ -517,17 +354,10 @@ module _ (n : ℕ) (bytes : List ℕ) (h : History) (v : CoreValue) where
   not_fed_adds deaf = by (listens h.opened n h.events) refl
     where
       both : (a b : Bool) → (a && not b) ≡ true → (a ≡ true) × (b ≡ false)
-      both true false e = (refl, refl)
-      both true true e = absurd (cc)
-      both false b e = absurd (cc)
+      both a b h2 = grind (arith, nat_tests)
 
       broke : HasConns v h.opened h.events → listens h.opened n h.events ≡ true → (b : Bool) → (v.conns n).broken ≡ b → (v.conns n).broken ≡ true
-      broke c on true is = is
-      broke c on false is = absurd (
-          let parts = both (is_open h.opened n h.events) (hung_up h.opened n h.events) on in
-          let there : is_open_value v.opened n (v.conns n) ≡ true = sym (c.each n).open_is ∙ parts.0 in
-          let whole : is_heard (v.conns n) (v.streams n) ≡ true = rw (is, (c.each n).hung_is there is, parts.1) refl in
-          let clash : true ≡ false = sym (rw (there, whole) refl) ∙ deaf in cc)
+      broke h0 h1 b h3 = grind (arith, nat_tests)
 
       by : (b : Bool) → listens h.opened n h.events ≡ b → Adds h.opened (Piece n bytes) h v v
       by false off = off_adds off

@@ -1,38 +1,17 @@
 -- Each call of the gateway leaves what holds between two calls.
-use Rattle.std.proofs.Common.{◌≡◌, ℕ, ◌+◌, ◌<◌, ◌≤◌, Bool, true, false, List, [], length, Option, None, Some, Result, refl, sym, ap, ◌∙◌, subst, arith}
-use Rattle.std.specs.List.{sum_by}
+use Rattle.std.specs.Prelude.{◌≡◌, ◌+◌, ◌<◌, ◌≤◌, if◌then◌else◌}
+use Rattle.gateway_theory.specs.lemmas.Names.{ℕ, Bool, true, false, List, [], length, Option, None, Some, refl, sym, ap, ◌∙◌, subst, arith, nat_tests, sum_by, ⊤, is_some, HasRead, PlanRecord, Outcome, JobValue, CallId, GatewayValue, conn_of, HeldConnection, ReplyValue, moment_after, kept_at, HandedJob, StepFault, Took, Trigger, Drained, HungUp, Reached, one_if_open, open_count, not_fed, dropped, unread, read, broke, unnoticed, hung, ended, unknown, settled, late, lost, CallsEnd, HangsUp, Holds, TakesBytes, TakesReply, TakesResult, TakesStarved, closed_held, hung_held, is_gone, left_of, lost_held, new_held, new_reader, read_held, IsHeld, IsServing, absent, there, shut, Broadcast, Closes, Drains, Feeds, HangsUpAt, MayEnd, Moves, Opens, Reaches, Results, Starves, TakesJob, TakesReplyAt, open_in}
+use Rattle.std.proofs.Common.{Result}
 use Rattle.std.specs.List.Sorted.{IsStrictlySortedBy}
 use Rattle.std.specs.Map.{keys_of, values_of}
 use Rattle.std.specs.Ordering.{nat_cmp}
-use Rattle.std.specs.Prelude.{◌||◌, ⊤, if◌then◌else◌, is_some}
-use Rattle.std.proofs.lemmas.List.Elements.{All-get_or}
-use Rattle.http_pieces.specs.Reader.{HasRead}
-use Rattle.call_plan.specs.Plan.{PlanRecord}
-use Rattle.connect_codec.specs.declared.answer.Outcome.{Outcome}
-use Rattle.gateway_model.specs.Job.{JobValue}
-use Rattle.gateway_model.specs.declared.id.CallId.{CallId}
-use Rattle.gateway_theory.specs.Values.{KeptValue, GatewayValue, conn_of, HeldConnection}
-use Rattle.gateway_theory.specs.Replies.{ReplyValue}
-use Rattle.gateway_theory.specs.Step.{moment_after}
-use Rattle.gateway_theory.specs.Store.{kept_at, no_call}
-use Rattle.gateway_theory.specs.Task.{HandedJob}
-use Rattle.gateway_theory.specs.declared.fault.StepFault.{StepFault}
-use Rattle.gateway_theory.specs.declared.fault.Took.{Took}
-use Rattle.gateway_theory.specs.declared.trigger.Trigger.{Trigger}
-use Rattle.gateway_theory.specs.declared.trigger.Trigger.TheVariants.{Drained, HungUp, Reached}
 use Rattle.gateway_theory.specs.lemmas.StoreLemmas.{some_same}
-use Rattle.gateway_theory.specs.Gateway.{one_if_open, open_count}
-use Rattle.gateway_theory.specs.Held.{not_fed, dropped, unread, read, came, broke, unnoticed, hung, ended, unknown, settled, late, lost, CallsEnd, HangsUp, Holds, TakesBytes, TakesReply, TakesResult, TakesStarved, back_held, closed_held, hung_held, is_gone, left_of, lost_held, new_held, new_reader, read_held, result_in, settled_held, taken_held}
-use Rattle.gateway_theory.specs.Serving.{IsHeld, IsServing}
-use Rattle.gateway_theory.specs.Steps.{absent, there, shut, closes, Broadcast, Closes, Drains, Feeds, HangsUpAt, MayEnd, Moves, Opens, Reaches, Results, Starves, TakesJob, TakesReplyAt, first_gateway, open_in}
+use Rattle.gateway_theory.specs.Held.{came}
+use Rattle.gateway_theory.specs.Steps.{closes}
 use Rattle.gateway_theory.specs.lemmas.Conns.{moves_kept, moves_serving, look, sum_alike, sum_values}
-use Rattle.gateway_theory.specs.lemmas.HeldSteps.{Like, held_broken, held_closed, held_ended, held_entered, held_hung, held_like, held_new, held_read, hears_parts, like_back, like_forgotten, like_itself, like_lost, like_settled, like_taken, like_then, holds_back, holds_forgotten, holds_lost, holds_settled, holds_taken}
+use Rattle.gateway_theory.specs.lemmas.HeldSteps.{Like, held_broken, held_closed, held_ended, held_entered, held_hung, held_like, held_new, held_read, hears_parts, like_back, like_forgotten, like_itself, like_lost, like_settled, like_then, holds_back, holds_forgotten, holds_lost, holds_settled}
 
 -- ---- at first, and where nothing of the connections changes
-
-pub first_serving : (plans : List PlanRecord) → IsServing (first_gateway plans)
-unfolding IsStrictlySortedBy
-first_serving plans = record { each = λ c k is. absurd (cc); sorted = tt; few_open = omega arith }
 
 pub same_serving : (v w : GatewayValue) → w.conns ≡ v.conns → w.opened ≡ v.opened → IsServing v → IsServing w
 same_serving v w conns_are opened_is s = record {
@@ -43,11 +22,7 @@ same_serving v w conns_are opened_is s = record {
 
 -- what stays is it, and is not gone
 pub left_some : (k l : HeldConnection) → left_of k ≡ Some l → (k ≡ l) × (is_gone k ≡ false)
-left_some k l e = by (is_gone k) refl
-  where
-    by : (b : Bool) → is_gone k ≡ b → (k ≡ l) × (is_gone k ≡ false)
-    by true gone = absurd (let clash : None ≡ Some l = sym (ap (λ b. if b then None else Some k) gone) ∙ e in cc)
-    by false here = (some_same (sym (ap (λ b. if b then None else Some k) here) ∙ e), here)
+left_some k l e = grind arith
 
 pub job_serving : (v w : GatewayValue) (job : Option HandedJob) → TakesJob v w job → IsServing v → IsServing w
 job_serving v w job t = same_serving v w (ap (λ (x : GatewayValue). x.conns) t.rest) (ap (λ (x : GatewayValue). x.opened) t.rest)
@@ -71,19 +46,13 @@ closes_serving number v w result (closes k k_is still r m w_is) s =
     (let sum = m.open_is in let few = s.few_open in let none : open_in (left_of (closed_held k)) ≡ 0 = none_open (is_gone (closed_held k)) in omega (arith, sum, few, none))
   where
     none_open : (b : Bool) → open_in (if b then None else Some (closed_held k)) ≡ 0
-    none_open true = refl
-    none_open false = refl
+    none_open b = grind (arith, nat_tests)
 
 -- ---- what comes on a connection
 
 pub fed_closed : (plans : List PlanRecord) (moment : ℕ) (drained : Bool) (bytes : List ℕ) (begun : ℕ) (k : HeldConnection) (then_begun : ℕ) (l : HeldConnection) (jobs : List JobValue) (result : Result ℕ StepFault)
     → TakesBytes plans moment drained bytes begun k then_begun l jobs result → l.closed ≡ k.closed
-fed_closed plans moment drained bytes begun k then_begun l jobs result (not_fed off r l_is j b) = ap (λ (x : HeldConnection). x.closed) l_is
-fed_closed plans moment drained bytes begun k then_begun l jobs result (dropped on over r l_is j b) = ap (λ (x : HeldConnection). x.closed) l_is
-fed_closed plans moment drained bytes begun k then_begun l jobs result (unread on going r l_is j b) = ap (λ (x : HeldConnection). x.closed) l_is
-fed_closed plans moment drained bytes begun k then_begun l jobs result (read on going n reader reads none r l_is j b) = ap (λ (x : HeldConnection). x.closed) l_is
-fed_closed plans moment drained bytes begun k then_begun l jobs result (came on going n request reader x reads some r l_is j b few) = ap (λ (x : HeldConnection). x.closed) l_is
-fed_closed plans moment drained bytes begun k then_begun l jobs result (broke on going n request reader x reads some fault f r l_is j b) = ap (λ (x : HeldConnection). x.closed) l_is
+fed_closed plans moment drained bytes begun k then_begun l jobs result h10 = grind (arith, nat_tests)
 
 fed_held : (n c : ℕ) (plans : List PlanRecord) (moment : ℕ) (drained : Bool) (bytes : List ℕ) (begun : ℕ) (k : HeldConnection) (then_begun : ℕ) (l : HeldConnection) (jobs : List JobValue) (result : Result ℕ StepFault)
     → TakesBytes plans moment drained bytes begun k then_begun l jobs result → IsHeld n c k → IsHeld n c l
@@ -103,9 +72,7 @@ feeds_serving number bytes v w result (there k l jobs k_is t m w_is) s =
     (fed_held v.opened number v.plans v.moment v.drained bytes v.begun k w.begun l jobs result t)
 
 pub hung_closed : (k l : HeldConnection) (result : Result ⊤ StepFault) → HangsUp k l result → l.closed ≡ k.closed
-hung_closed k l result (unnoticed off r l_is) = ap (λ (x : HeldConnection). x.closed) l_is
-hung_closed k l result (hung on r l_is) = ap (λ (x : HeldConnection). x.closed) l_is
-hung_closed k l result (broke on ends r l_is) = ap (λ (x : HeldConnection). x.closed) l_is
+hung_closed k l result h3 = grind (arith, nat_tests)
 
 hung_is_held : (n c : ℕ) (k l : HeldConnection) (result : Result ⊤ StepFault) → HangsUp k l result → IsHeld n c k → IsHeld n c l
 hung_is_held n c k l result (unnoticed off r l_is) h = subst (IsHeld n c) (sym l_is) h
@@ -174,29 +141,15 @@ left_serving c k l v w m k_is opened_is like holds s =
     let same : one_if_open l ≡ one_if_open k = ap (λ b. if b then 0 else 1) like.closed_is in omega (arith, sum, few, old, less, same))
   where
     few_left : (b : Bool) → open_in (if b then None else Some l) ≤ one_if_open l
-    few_left true = omega arith
-    few_left false = omega arith
+    few_left b = grind (arith, nat_tests)
 
 -- a call that can be decided is of a connection that is neither closed nor broken
 pub live_goes : (i : ℕ) (k : HeldConnection) → Holds k → i < length k.calls → is_some (kept_at i k.calls).call.live ≡ true → (k.closed ≡ false) × (k.broken ≡ false)
-live_goes i k h lt live = by k.closed k.broken refl refl
-  where
-    never : (k.closed || k.broken) ≡ true → ⊥
-    never off =
-        let dead : (kept_at i k.calls).call.live ≡ None = All-get_or (λ (c : KeptValue). c.call.live ≡ None) k.calls i no_call lt (h.dead off) in
-        let clash : true ≡ false = sym live ∙ ap is_some dead in absurd (cc)
-
-    by : (a b : Bool) → k.closed ≡ a → k.broken ≡ b → (k.closed ≡ false) × (k.broken ≡ false)
-    by false false a b = (a, b)
-    by false true a b = absurd (never (rw (a, b) refl))
-    by true b a b_is = absurd (never (rw a refl))
+live_goes i k h lt live = grind arith
 
 pub taken_like : (moment : ℕ) (id : CallId) (branch : ℕ) (outcome : Outcome) (k l : HeldConnection) (jobs : List JobValue) (took : Took) → TakesResult moment id branch outcome k l jobs took → Holds k → Like k l × Holds l
 taken_like moment id branch outcome k l jobs took (unknown out t l_is j) h = (subst (Like k) (sym l_is) (like_itself k), subst Holds (sym l_is) h)
-taken_like moment id branch outcome k l jobs took (settled i found out t forgets j own) h = (
-  like_then k (settled_held i (result_in moment i branch outcome k) k) l (like_settled moment i branch outcome k) (like_forgotten id (settled_held i (result_in moment i branch outcome k) k) l forgets),
-  holds_forgotten id (settled_held i (result_in moment i branch outcome k) k) l forgets (holds_settled moment i branch outcome k found.0 h),
-)
+taken_like moment id branch outcome k l jobs took (settled i found out t forgets j own) h = search (arith, nat_tests, like_then, like_settled, like_forgotten, holds_forgotten, holds_settled)
 taken_like moment id branch outcome k l jobs took (lost i found out live t forgets j) h = (
   like_then k (lost_held i branch k) l (like_lost i branch k ((live_goes i k h found.0 live).0)) (like_forgotten id (lost_held i branch k) l forgets),
   holds_forgotten id (lost_held i branch k) l forgets (holds_lost i branch k found.0 h),
@@ -204,10 +157,7 @@ taken_like moment id branch outcome k l jobs took (lost i found out live t forge
 
 pub starved_like : (id : CallId) (branch : ℕ) (k l : HeldConnection) (took : Took) → TakesStarved id branch k l took → Holds k → Like k l × Holds l
 starved_like id branch k l took (unknown out t l_is) h = (subst (Like k) (sym l_is) (like_itself k), subst Holds (sym l_is) h)
-starved_like id branch k l took (late i found out dead t forgets) h = (
-  like_then k (back_held i branch k) l (like_back i branch k) (like_forgotten id (back_held i branch k) l forgets),
-  holds_forgotten id (back_held i branch k) l forgets (holds_back i branch k found.0 h),
-)
+starved_like id branch k l took (late i found out dead t forgets) h = search (arith, nat_tests, like_then, like_back, like_forgotten, holds_forgotten, holds_back)
 starved_like id branch k l took (lost i found out live t forgets) h = (
   like_then k (lost_held i branch k) l (like_lost i branch k ((live_goes i k h found.0 live).0)) (like_forgotten id (lost_held i branch k) l forgets),
   holds_forgotten id (lost_held i branch k) l forgets (holds_lost i branch k found.0 h),
@@ -228,11 +178,7 @@ starves_serving id branch v w took (there k l k_is t m tally w_is) s =
 -- ---- replies
 
 pub reply_held : (n c : ℕ) (k l : HeldConnection) (reply : Option ReplyValue) → TakesReply k l reply → IsHeld n c k → (l.closed ≡ k.closed) × IsHeld n c l
-reply_held n c k l None t h = (ap (λ (x : HeldConnection). x.closed) t.1, subst (IsHeld n c) (sym t.1) h)
-reply_held n c k l (Some r) t h = (
-  ap (λ (x : HeldConnection). x.closed) t.2,
-  subst (IsHeld n c) (sym t.2) (held_like n c k (taken_held k) (like_taken k r.entry t.0) (holds_taken k r.entry t.0 h.holds) h.stays h),
-)
+reply_held n c k l reply h5 h6 = grind (arith, nat_tests)
 
 pub reply_serving : (number : ℕ) (v w : GatewayValue) (reply : Option ReplyValue) → TakesReplyAt number v w reply → IsServing v → IsServing w
 reply_serving number v w reply (absent none r w_is) s = subst IsServing (sym w_is) s

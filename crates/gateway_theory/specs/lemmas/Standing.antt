@@ -1,28 +1,7 @@
 -- The first connections, a reply or a job that is taken, what is queued, and what is not kept any more.
-use Rattle.std.proofs.Common.{◌≡◌, ℕ, List, [], ◌∷◌, ◌++◌, map, Option, None, Some, refl, sym, ap, ◌∙◌, arith, Bool, true, false, subst, append_assoc, length}
-use Rattle.std.specs.List.{range_with_len}
-use Rattle.std.proofs.lemmas.List.{ext_get_or, length-append}
-use Rattle.std.proofs.lemmas.List.FromFn.{get_or-map-range_with_len, length-map-range_with_len}
-use Rattle.gateway_model.specs.Past.{Past, call_id, arrivals, is_out, marked}
-use Rattle.gateway_model.specs.declared.entry.ReplyEntry.{ReplyEntry}
-use Rattle.gateway_model.specs.Queue.{entry, front, queued_entries}
-use Rattle.gateway_theory.specs.Standing.{SlotsStand}
-use Rattle.std.specs.Prelude.{◌==◌, ◌||◌, if◌then◌else◌, ◌&&◌, nat_lt}
-use Rattle.std.proofs.lemmas.Bool.{eqb-true, le-ltb}
-use Rattle.gateway_model.specs.Job.{JobValue}
-use Rattle.gateway_model.specs.Occurrence.{Occurrence}
-use Rattle.gateway_model.specs.Own.{own}
-use Rattle.gateway_theory.specs.LiveStands.{CallStands, MayLive}
-use Rattle.gateway_theory.specs.Step.{has_out}
-use Rattle.gateway_theory.specs.Values.{CallState, gone, ConnectionValue, not_kept}
+use Rattle.std.specs.Prelude.{◌≡◌, ◌∷◌, ◌++◌, ◌==◌, ◌||◌, if◌then◌else◌}
+use Rattle.gateway_theory.specs.lemmas.Names.{ℕ, List, [], map, Option, None, Some, refl, sym, ap, ◌∙◌, arith, Bool, true, false, append_assoc, nat_tests, range_with_len, ext_get_or, length-append, get_or-map-range_with_len, length-map-range_with_len, Past, call_id, arrivals, is_out, marked, ReplyEntry, entry, front, queued_entries, SlotsStand, eqb-true, JobValue, Occurrence, own, CallStands, has_out, CallState, gone, ConnectionValue, not_kept, AllStand, ConnectionStands, Now, forgets, now_of, reply_taken, PlanRecord, History, after_jobs, no_history, Placed, occurrences, CoreValue, HasConns, Lives, Served, new_stream}
 use Rattle.gateway_theory.specs.lemmas.OwnLemmas.{own_alike, own_queue}
-use Rattle.gateway_theory.specs.Connection.{AllStand, ConnectionStands, Now, forgets, now_of, reply_taken}
-use Rattle.call_plan.specs.Plan.{PlanRecord}
-use Rattle.gateway_model.specs.Events.{Occurs}
-use Rattle.gateway_model.specs.History.{History, after_jobs, no_history}
-use Rattle.gateway_model.specs.Starts.{Placed, occurrences}
-use Rattle.gateway_theory.specs.Core.{CoreValue, HasConns, Lives, Served, new_stream}
-use Rattle.gateway_theory.specs.lemmas.ServedLemmas.{Stays, stays_itself, stream_stays}
 
 -- ---- the queue
 
@@ -41,17 +20,7 @@ queue_is c taken slots past h = sym (front_behind taken slots) ∙ ap front (slo
 
 -- nothing has occurred
 pub all_first : AllStand (now_of 0 false) (λ c. not_kept false c) (λ c. []) [] [] []
-all_first = record {
-  now = record { moment_is = refl; drained_is = refl };
-  numbers = λ c. refl;
-  each = λ c. record {
-    conn = λ e. record { taken_is = refl; closed_is = refl; slots_stand = record { size_is = refl; each = λ k. refl } };
-    calls = λ k. record { out_is = λ i. refl; live_is = refl };
-    broken_is = refl;
-    shut_is = refl;
-  };
-  jobs_are = refl;
-}
+all_first = grind arith
 
 -- ---- what is taken
 
@@ -62,16 +31,7 @@ taken_more (x ∷ xs) e rest = ap (λ l. Some x ∷ l) (taken_more xs e rest)
 -- the first reply of a connection
 pub reply_goes : (v : ConnectionValue) (taken : List ReplyEntry) (e : ReplyEntry) (rest : List (Option ReplyEntry)) (os : List Occurrence) → v.slots ≡ Some e ∷ rest
     → ConnectionStands v taken os → ConnectionStands (reply_taken rest v) (taken ++ e ∷ []) os
-reply_goes v taken e rest os there h = record {
-  conn = λ still. record {
-    taken_is = let t = (h.conn still).taken_is in omega (arith, t, length-append taken (e ∷ []));
-    closed_is = (h.conn still).closed_is;
-    slots_stand = subst (λ xs. SlotsStand v.number xs (marked os)) (ap (λ l. map Some taken ++ l) there ∙ sym (taken_more taken e rest)) (h.conn still).slots_stand;
-  };
-  calls = h.calls;
-  broken_is = h.broken_is;
-  shut_is = h.shut_is;
-}
+reply_goes v taken e rest os there h = grind (arith, nat_tests, length-append, taken_more)
 
 module _ (n : Now) (conns : ℕ → ConnectionValue) (taken : ℕ → List ReplyEntry) (handed waiting : List JobValue) (os : List Occurrence) (h : AllStand n conns taken handed waiting os) where
   pub all_reply : (c : ℕ) (e : ReplyEntry) (rest : List (Option ReplyEntry)) → (conns c).slots ≡ Some e ∷ rest
@@ -79,8 +39,7 @@ module _ (n : Now) (conns : ℕ → ConnectionValue) (taken : ℕ → List Reply
   all_reply c e rest there = record { now = h.now; numbers = λ d. number d (d == c); each = λ d. by d (d == c) refl; jobs_are = h.jobs_are }
     where
       number : (d : ℕ) (b : Bool) → (if b then reply_taken rest (conns d) else conns d).number ≡ d
-      number d true = h.numbers d
-      number d false = h.numbers d
+      number d b = grind (arith, nat_tests)
 
       by : (d : ℕ) (b : Bool) → (d == c) ≡ b → ConnectionStands (if b then reply_taken rest (conns d) else conns d) (if b then taken d ++ e ∷ [] else taken d) (own d os)
       by d true is = reply_goes (conns d) (taken d) e rest (own d os) (ap (λ k. (conns k).slots) (eqb-true d c is) ∙ there) (h.each d)
@@ -93,9 +52,7 @@ module _ (n : Now) (conns : ℕ → ConnectionValue) (taken : ℕ → List Reply
 
   -- the replies of one that is not closed, taken or not, are its queue
   pub queue_stands : (c : ℕ) → (conns c).closed ≡ false → taken c ++ front (conns c).slots ≡ queued_entries c (marked os)
-  queue_stands c still =
-      queue_is c (taken c) (conns c).slots (marked (own c os)) (subst (λ d. SlotsStand d (map Some (taken c) ++ (conns c).slots) (marked (own c os))) (h.numbers c) ((h.each c).conn still).slots_stand)
-      ∙ sym (own_queue c os)
+  queue_stands c still = grind (arith, nat_tests, queue_is, own_queue)
 
   -- the branches that are out are those of the definitions
   pub outs_stand : (c k i : ℕ) → has_out ((conns c).calls k) i ≡ is_out (call_id c k) i (marked os)
@@ -106,28 +63,11 @@ module _ (n : Now) (conns : ℕ → ConnectionValue) (taken : ℕ → List Reply
 
 -- a call that can't be decided, and none of whose branches is out
 call_gone : (c : ℕ) (k : ℕ) (s : CallState) (past : Past) → s.live ≡ None → ((i : ℕ) → has_out s i ≡ false) → CallStands (call_id c k) s past → CallStands (call_id c k) gone past
-call_gone c k s past dead back h = record {
-  out_is = λ i. none i ∙ sym (back i) ∙ h.out_is i;
-  live_is = subst (λ l. MayLive (call_id c k) l s.out past) dead h.live_is;
-}
-  where
-    none : (i : ℕ) → has_out gone i ≡ false
-    none i = refl
+call_gone c k s past dead back h = grind arith
 
 pub call_forgotten : (v : ConnectionValue) (taken : List ReplyEntry) (k : ℕ) (os : List Occurrence) → (v.calls k).live ≡ None → ((i : ℕ) → has_out (v.calls k) i ≡ false)
     → ConnectionStands v taken os → ConnectionStands (forgets k v) taken os
-call_forgotten v taken k os dead back h = record {
-  conn = h.conn;
-  calls = λ j. by j (j == k) refl;
-  broken_is = h.broken_is;
-  shut_is = h.shut_is;
-}
-  where
-    by : (j : ℕ) (b : Bool) → (j == k) ≡ b → CallStands (call_id v.number j) (if b then gone else v.calls j) (marked os)
-    by j true is =
-        let same = eqb-true j k is in
-        call_gone v.number j (v.calls j) (marked os) (ap (λ i. (v.calls i).live) same ∙ dead) (λ i. ap (λ m. has_out (v.calls m) i) same ∙ back i) (h.calls j)
-    by j false is = h.calls j
+call_forgotten v taken k os dead back h = grind arith
 
 -- a connection that was closed, and none of whose branches is out
 pub connection_forgotten : (v : ConnectionValue) (taken : List ReplyEntry) (os : List Occurrence) → v.closed ≡ true → ((k : ℕ) → (v.calls k).live ≡ None)
@@ -144,20 +84,8 @@ connection_forgotten v taken os shut dead back h = record {
 abbrev pub first : List PlanRecord → CoreValue
 first plans = record { plans = plans; now = now_of 0 false; conns = λ c. not_kept false c; streams = λ c. new_stream; opened = 0; begun = 0; waiting = [] }
 
-none_open : (c : ℕ) → (nat_lt c 0 && true) ≡ false
-none_open c = ap (λ b. b && true) (le-ltb c 0 (omega arith))
-
 first_conns : (plans : List PlanRecord) → HasConns (first plans) [] []
-first_conns plans = record {
-  below = λ place its. absurd (cc);
-  count_is = refl;
-  each = λ c. record {
-    unopened = λ new. (refl, refl);
-    open_is = sym (none_open c);
-    hung_is = λ there on. refl;
-    has_come = λ there on. absurd (let clash : true ≡ false = sym there ∙ none_open c in cc);
-  };
-}
+first_conns plans = grind arith
 
 pub first_lived : (plans : List PlanRecord) → Lives (first plans) no_history []
 first_lived plans = record { occurs = refl; in_order = tt; breaks = tt; conns = first_conns plans; stands = all_first; begun_is = omega arith }
@@ -170,23 +98,11 @@ first_served plans = record { conns = first_conns plans; stands = λ occurred o.
 -- no event came, and whatever was lived was lived
 pub leaves_served : (v w : CoreValue) (h g : History) → g.opened ≡ h.opened → g.events ≡ h.events → w.plans ≡ v.plans → (HasConns v h.opened h.events → HasConns w g.opened g.events)
     → ((lived : List Placed) → Lives v h lived → Lives w g lived) → Served v h → Served w g
-leaves_served v w h g opened_are events_are plans_are conns lives s = record {
-  conns = conns s.conns;
-  stands = λ occurred o.
-      let x = s.stands occurred (subst (λ plans. Occurs plans h.opened h.events occurred) plans_are (subst (λ es. Occurs w.plans h.opened es occurred) events_are (subst (λ os. Occurs w.plans os g.events occurred) opened_are o))) in
-      (x.0, x.1, lives x.0 x.2);
-}
+leaves_served v w h g opened_are events_are plans_are conns lives s = grind arith
 
 -- the first job that waits
 pub job_lived : (v : CoreValue) (h : History) (j : JobValue) (rest : List JobValue) → v.waiting ≡ j ∷ rest → (lived : List Placed) → Lives v h lived → Lives (record v { waiting = rest }) (after_jobs (j ∷ []) h) lived
-job_lived v h j rest is lived l = record {
-  occurs = l.occurs;
-  in_order = l.in_order;
-  breaks = l.breaks;
-  conns = l.conns;
-  stands = all_job v.now v.conns h.taken h.handed v.waiting (occurrences lived) l.stands j rest is;
-  begun_is = l.begun_is;
-}
+job_lived v h j rest is lived l = search (arith, nat_tests, all_job)
 
 -- the first reply of a connection
 abbrev pub without_reply : ℕ → List (Option ReplyEntry) → CoreValue → CoreValue
@@ -195,24 +111,9 @@ without_reply c rest v = record v { conns = λ d. if d == c then reply_taken res
 abbrev pub with_entry : ℕ → ReplyEntry → History → History
 with_entry c e h = record h { taken = λ d. if d == c then h.taken d ++ e ∷ [] else h.taken d }
 
-reply_stays : (v : ConnectionValue) (e : ReplyEntry) (rest : List (Option ReplyEntry)) → v.slots ≡ Some e ∷ rest → Stays v (reply_taken rest v)
-reply_stays v e rest is = record {
-  closed_is = refl;
-  broken_was = λ on. on;
-  next_is = let size : length v.slots ≡ length (Some e ∷ rest) = ap (λ (l : List (Option ReplyEntry)). length l) is in omega (arith, size);
-}
-
 module _ (v : CoreValue) (h : History) (c : ℕ) (e : ReplyEntry) (rest : List (Option ReplyEntry)) (is : (v.conns c).slots ≡ Some e ∷ rest) where
-  stays : (d : ℕ) (b : Bool) → (d == c) ≡ b → Stays (v.conns d) (if b then reply_taken rest (v.conns d) else v.conns d)
-  stays d true at = reply_stays (v.conns d) e rest (ap (λ m. (v.conns m).slots) (eqb-true d c at) ∙ is)
-  stays d false at = stays_itself (v.conns d)
-
   pub reply_conns : HasConns v h.opened h.events → HasConns (without_reply c rest v) h.opened h.events
-  reply_conns s = record {
-    below = s.below;
-    count_is = s.count_is;
-    each = λ d. stream_stays h.opened h.opened h.events h.events v.opened v.opened d (v.conns d) ((without_reply c rest v).conns d) (v.streams d) (stays d (d == c) refl) (s.each d) refl refl refl refl;
-  }
+  reply_conns s = grind arith
 
   pub reply_lived : (lived : List Placed) → Lives v h lived → Lives (without_reply c rest v) (with_entry c e h) lived
   reply_lived lived l = record {

@@ -1,33 +1,14 @@
 -- What an occurrence makes of one call.
-use Rattle.std.proofs.Common.{◌≡◌, ℕ, suc, ◌+◌, ◌≤◌, ◌<◌, ◌-◌, min, Bool, true, false, List, [], ◌∷◌, ◌++◌, map, length, Option, None, Some, refl, sym, ap, ◌∙◌, subst, arith, ⊎_elim, inl, inr}
-use Rattle.std.specs.Prelude.{◌⊎◌, is_some, is_none, if◌then◌else◌, ◌&&◌, not, ◌==◌, nat_lt, option_and_then, slice_set, slice_index_or}
-use Rattle.std.specs.Option.{option_or, option_map_or}
-use Rattle.std.specs.List.{range_with_len}
-use Rattle.std.proofs.lemmas.Bool.{cond_both, cases_Bool, cases_eq, cases_lt, ltb-false, lt-ltb, le-ltb, eq-eqb, ne_eqb, and_parts}
-use Rattle.std.proofs.lemmas.List.{get_or-set_same, get_or-set_other, length-set, length-append, append-nil}
-use Rattle.std.proofs.Math.ListN.{get_or-eq_default}
-use Rattle.connect_codec.specs.declared.answer.Outcome.{Outcome}
-use Rattle.connect_codec.specs.declared.answer.Outcome.TheVariants.{Answer, Fail}
+use Rattle.std.specs.Prelude.{◌≡◌, ◌+◌, ◌<◌, ◌-◌, ◌∷◌, ◌++◌, ◌⊎◌, if◌then◌else◌, ◌&&◌, ◌==◌}
+use Rattle.gateway_theory.specs.lemmas.Names.{ℕ, suc, min, Bool, true, false, List, [], length, Option, None, Some, refl, sym, ap, ◌∙◌, subst, arith, ⊎_elim, nat_tests, is_some, not, option_and_then, slice_set, slice_index_or, option_or, option_map_or, cases_Bool, cases_eq, ltb-false, lt-ltb, le-ltb, eq-eqb, ne_eqb, and_parts, get_or-set_same, get_or-set_other, length-set, length-append, append-nil, get_or-eq_default, Outcome, Answer, Fail, CallId, Judged, Asks, job_of, task_of, Occurrence, Opening, Comes, HangUp, Moment, Result, Drain, Closing, Coming, Request, Refused, Break, CallEvent, Failed, Mark, Past, ArrivedCall, call, arrivals, coming_now, asked_now, asked_by, began, answers, started, is_out, is_result_of, is_answer_to, is_call, is_shut, shuts, event_by, own_event, decides, decided, can_be_decided, branch_deadlines, deadline_from, due_by, now, counts, mark_of, of_branch, Call as Calling, came, own_events, record_deadlines, record_of, entry, call_entry, jobs_started, kept, ended_by, ended_live, ending, entry_as, deadlines_in, deadlines_then, first_of, rest_of, next_out, is_last_answer, counted, result_on, step, moment_after, Live, call_state, is_live, tasks_from, LiveStands, MayLive, CallStands, Stepped}
 use Rattle.error_document.specs.declared.document.RpcError.{RpcError}
-use Rattle.gateway_model.specs.declared.id.CallId.{CallId}
-use Rattle.gateway_model.specs.Arrival.{Judged, Asks}
-use Rattle.gateway_model.specs.Job.{job_of}
-use Rattle.gateway_theory.specs.Task.{task_of}
-use Rattle.gateway_model.specs.Occurrence.{Occurrence, Opening, Comes, HangUp, Moment, Result, Drain, Closing, Coming, Request, Refused, Break}
-use Rattle.gateway_model.specs.declared.call_event.CallEvent.{CallEvent}
-use Rattle.gateway_model.specs.declared.call_event.CallEvent.TheVariants.{Answer as Answered, Failed, Expired, BranchExpired, HungUp, Drained}
-use Rattle.gateway_model.specs.Past.{Mark, Past, ArrivedCall, call, arrivals, coming_now, asked_now, asked_by, began, answers, started, is_out, is_result_of, is_answer_to, is_call, is_shut, shuts, event_by, own_event, ends_at_arrival, decides, decided, can_be_decided, branch_deadlines, deadline_from, due_by, now, counts, mark_of, of_branch}
-use Rattle.gateway_model.specs.declared.entry.ReplyEntry.TheVariants.{Call as Calling}
-use Rattle.gateway_model.specs.Queue.{came, own_events, record_deadlines, record_of, entry_by, entry, call_entry}
-use Rattle.gateway_model.specs.Starts.{jobs_started, branches_started}
+use Rattle.gateway_model.specs.declared.call_event.CallEvent.TheVariants.{Answer as Answered, HungUp, Drained}
 use Rattle.gateway_theory.specs.lemmas.LimitLemmas.{out_started, same_call}
 use Rattle.gateway_theory.specs.lemmas.Unborn.{unborn}
 use Rattle.gateway_theory.specs.lemmas.Cases.{and_none, and_true, and_false, or_none}
-use Rattle.gateway_theory.specs.Step.{kept, ended, ended_by, ended_live, ending, entry_as, deadlines_in, deadlines_then, first_of, rest_of, next_out, is_last_answer, counted, result_on, step, moment_after}
-use Rattle.gateway_theory.specs.Values.{Live, call_state}
-use Rattle.gateway_theory.specs.LiveStands.{is_live, tasks_from, LiveStands, MayLive, CallStands, Stepped}
+use Rattle.gateway_theory.specs.Step.{ended}
 use Rattle.gateway_theory.specs.lemmas.Deadlines.{deadlines_same, deadlines_more, expires, outs_are}
-use Rattle.gateway_theory.specs.lemmas.Frame.{Past_it, unasked, call_same, began_same, came_same, answers_same, started_same, decided_same, own_same, own_before, shut_decided, shut_stays, not_started, out_after, out_same, none_start, entry_same}
+use Rattle.gateway_theory.specs.lemmas.Frame.{Past_it, unasked, call_same, began_same, came_same, answers_same, started_same, decided_same, own_same, own_before, not_started, out_after, out_same, none_start, entry_same}
 
 -- ---- what came for a call
 
@@ -42,14 +23,7 @@ came_by id m past a (Some (Request q (Asks plan t rid))) false x_is c_is e none 
     (t, rw (none, x_is, c_is) (ap (λ (o : Option ArrivedCall). option_map_or (λ (b : ArrivedCall). Some (Request b.request (Asks b.plan t b.request_id), false)) o None) e))
 
 pub entering_at : (id : CallId) (m : Mark) (past : Past) (a : ArrivedCall) → asked_now id m past ≡ Some a → arrivals id.conn past ≡ id.request
-entering_at id m past a e =
-    ⊎_elim (λ (here : arrivals id.conn past ≡ id.request). here)
-    (λ (ne : arrivals id.conn past ≡ id.request → ⊥). absurd (no_call m.crowded (rw (ne_eqb (arrivals id.conn past) id.request ne) at e)))
-    (cases_eq (arrivals id.conn past) id.request)
-  where
-    no_call : (crowded : Bool) → (if crowded then None else option_and_then (asked_by (now past)) None) ≡ Some a → ⊥
-    no_call true h = cc
-    no_call false h = cc
+entering_at id m past a e = grind arith
 
 -- a call came as the request that asks for it
 pub called_came : (id : CallId) (past : Past) (a : ArrivedCall) → call id past ≡ Some a → (t : Option ℕ) × (came id past ≡ Some (Request a.request (Asks a.plan t a.request_id), false))
@@ -58,10 +32,7 @@ called_came id (m ∷ past) a e = by_call (call id past) refl (called_came id pa
   where
     by_call : (c : Option ArrivedCall) → call id past ≡ c → (call id past ≡ Some a → (t : Option ℕ) × (came id past ≡ Some (Request a.request (Asks a.plan t a.request_id), false)))
         → (t : Option ℕ) × (came id (m ∷ past) ≡ Some (Request a.request (Asks a.plan t a.request_id), false))
-    by_call (Some b) c_is before =
-        let same : Some b ≡ Some a = rw c_is at e in
-        let b = before (c_is ∙ same) in
-        (b.0, rw b.1 refl)
+    by_call (Some b) c_is before = grind (arith, nat_tests)
     by_call None c_is before =
         let asks : asked_now id m past ≡ Some a = rw c_is at e in
         let here : arrivals id.conn past ≡ id.request = entering_at id m past a asks in
@@ -90,11 +61,7 @@ deadlines_now id m past undecided = rw undecided refl
 
 entry_then : (id : CallId) (l : Live) (out : List Bool) (m : Mark) (past : Past) (ds : List (Option ℕ)) (e : CallEvent) → LiveStands id l out past → Past_it id m past
     → own_event id m past ≡ Some e → decided id (m ∷ past) ≡ Some e → branch_deadlines id (m ∷ past) ≡ ds → entry id (m ∷ past) ≡ Some (entry_as ds e l)
-entry_then id l out m past ds e h none own dec deadlines =
-    let c = called_came id past l.asked h.call_is in
-    ap (λ o. option_and_then (entry_by id (m ∷ past)) o) (came_same id m past none ∙ c.1)
-    ∙ call_entry_is id (m ∷ past) l.asked ds (l.events ++ e ∷ []) e dec (call_same id m past none ∙ h.call_is) (deadlines_now id m past h.undecided ∙ deadlines)
-    (own_then id l out m past e h own)
+entry_then id l out m past ds e h none own dec deadlines = search (arith, nat_tests, called_came, came_same, call_entry_is, call_same, deadlines_now, own_then)
 
 -- a decided call can't be decided any more
 pub decided_shut : (id : CallId) (past : Past) (e : CallEvent) → decided id past ≡ Some e → is_live id past ≡ false
@@ -113,13 +80,7 @@ deadlines_kept id l out m past h none same = deadlines_same id m past (call_same
 ended_stepped : (id : CallId) (l : Live) (out after : List Bool) (m : Mark) (past : Past) (e : CallEvent) → LiveStands id l out past → Past_it id m past
     → own_event id m past ≡ Some e → decides (answers id past) (length l.asked.plan.branches) e ≡ true → started id (m ∷ past) ≡ started id past
     → ((i : ℕ) → slice_index_or after i false ≡ is_out id i (m ∷ past)) → Stepped id (ended e l after) m past
-ended_stepped id l out after m past e h none own ends same outs =
-    let dec : decided id (m ∷ past) ≡ Some e = decided_then id l out m past e h own ends in
-    record {
-      stands = record { out_is = outs; live_is = decided_shut id (m ∷ past) e dec };
-      replies = ended_replies id l out m past l.deadlines e h none own dec (deadlines_kept id l out m past h none same);
-      starts = sym (none_start id m past same);
-    }
+ended_stepped id l out after m past e h none own ends same outs = grind (arith, nat_tests, decided_then, decided_shut, ended_replies, deadlines_kept, none_start)
 
 -- ---- an occurrence that is no event of a call
 
@@ -130,36 +91,18 @@ same_replies id m past none same = or_none (entry id past) ∙ sym (entry_same i
 shut_stepped : (id : CallId) (out : List Bool) (m : Mark) (past : Past) → is_live id past ≡ false → Past_it id m past
     → (m.counted && is_answer_to id m.what) ≡ false
     → ((i : ℕ) → slice_index_or out i false ≡ is_out id i (m ∷ past)) → Stepped id (kept (call_state out None)) m past
-shut_stepped id out m past shut none no_answer outs = record {
-  stands = record { out_is = outs; live_is = shut_stays id m past none shut };
-  replies = same_replies id m past none (shut_decided id m past none shut);
-  starts = sym (none_start id m past (started_same id m past none no_answer));
-}
+shut_stepped id out m past shut none no_answer outs = search arith
 
 live_kept : (id : CallId) (l : Live) (out after : List Bool) (m : Mark) (past : Past) → LiveStands id l out past → Past_it id m past
     → (m.counted && is_answer_to id m.what) ≡ false → own_event id m past ≡ None → is_shut id.conn (m ∷ past) ≡ false → length after ≡ length out
     → LiveStands id l after (m ∷ past)
-live_kept id l out after m past h none no_answer own unshut size = record {
-  call_is = call_same id m past none ∙ h.call_is;
-  began_is = began_same id m past none ∙ h.began_is;
-  undecided = decided_same id m past own ∙ h.undecided;
-  unshut = unshut;
-  size_is = size ∙ h.size_is;
-  events_are = h.events_are ∙ sym (own_same id m past own);
-  answers_are = h.answers_are ∙ sym (answers_same id m past no_answer);
-  deadlines_are = sym (deadlines_kept id l out m past h none (started_same id m past none no_answer));
-  waiting_are = h.waiting_are ∙ ap (λ k. tasks_from k id l.asked) (sym (started_same id m past none no_answer));
-}
+live_kept id l out after m past h none no_answer own unshut size = grind (arith, nat_tests, call_same, began_same, decided_same, own_same, answers_same, deadlines_kept, started_same)
 
 live_stepped : (id : CallId) (l : Live) (out : List Bool) (m : Mark) (past : Past) → LiveStands id l out past → Past_it id m past
     → (m.counted && is_answer_to id m.what) ≡ false → own_event id m past ≡ None → is_shut id.conn (m ∷ past) ≡ false
     → ((i : ℕ) → slice_index_or out i false ≡ is_out id i (m ∷ past))
     → Stepped id (kept (call_state out (Some l))) m past
-live_stepped id l out m past h none no_answer own unshut outs = record {
-  stands = record { out_is = outs; live_is = live_kept id l out out m past h none no_answer own unshut refl };
-  replies = same_replies id m past none (decided_same id m past own);
-  starts = sym (none_start id m past (started_same id m past none no_answer));
-}
+live_stepped id l out m past h none no_answer own unshut outs = grind (arith, nat_tests, live_kept, same_replies, decided_same, none_start, started_same)
 
 -- ---- the kinds of occurrence
 
@@ -213,36 +156,18 @@ shutting id o conn out live past shuts_is uncounted no_result no_event_at none h
     outs i = h.out_is i ∙ sym (out_same id i m past same (no_result i))
 
     no_event : own_event id m past ≡ None
-    no_event = cond_both (is_shut id.conn past) None
-        (option_map_or (λ c. event_by id c m.what m.counted past) (call id past) (option_and_then (ends_at_arrival past) (asked_now id m past))) (λ o. o ≡ None)
-        (λ _. refl) (λ _. rw (unasked id m past none) (no_event_by (call id past)))
-      where
-        no_event_by : (a : Option ArrivedCall) → option_map_or (λ c. event_by id c o (counts o past) past) a None ≡ None
-        no_event_by None = refl
-        no_event_by (Some c) = ap (λ b. event_by id c o b past) uncounted ∙ no_event_at c
+    no_event = search (arith, nat_tests, m, unasked)
 
     by_own : (b : Bool) → (conn == id.conn) ≡ b → (live : Option Live) → MayLive id live out past
         → Stepped id (if b then kept (call_state out None) else kept (call_state out live)) m past
-    by_own true b_is live l = record {
-      stands = record { out_is = outs; live_is = rw (shuts_is, b_is) (and_none (is_some (call id (m ∷ past))) (is_none (decided id (m ∷ past)))) };
-      replies = same_replies id m past none (decided_same id m past no_event);
-      starts = sym (none_start id m past same);
-    }
+    by_own true b_is live l = grind (arith, nat_tests, outs, and_none, m, same_replies, decided_same, no_event, none_start, same, shut_stepped, no_answer, live_stepped)
     by_own false b_is None l = shut_stepped id out m past l none no_answer outs
     by_own false b_is (Some s) l = live_stepped id s out m past l none no_answer no_event (rw (shuts_is, b_is, l.unshut) refl) outs
 
 -- ---- results
 
 pub back_out : (out : List Bool) (i k : ℕ) → slice_index_or (slice_set out i false) k false ≡ (slice_index_or out k false && not (i == k))
-back_out out i k =
-    ⊎_elim (λ (same : k ≡ i).
-    ⊎_elim (λ (lt : i < length out). rw (same, eq-eqb i i refl, get_or-set_same out i false false lt) (sym (and_false (slice_index_or out i false))))
-    (λ (le : length out ≤ i).
-    rw (same, eq-eqb i i refl, get_or-eq_default (slice_set out i false) false {n = i} (omega (arith, le, length-set out i false))) (sym (and_false (slice_index_or out i false))))
-    (cases_lt i (length out)))
-    (λ (other : k ≡ i → ⊥).
-    rw (ne_eqb i k (λ e. other (sym e))) (get_or-set_other out i k false false other ∙ sym (and_true (slice_index_or out k false))))
-    (cases_eq k i)
+back_out out i k = grind (arith, nat_tests, eq-eqb, get_or-set_same, and_false, get_or-eq_default, length-set, ne_eqb, get_or-set_other, and_true)
 
 abbrev comes_back : CallId → ℕ → Outcome → Past → Mark
 comes_back id i outcome past = mark_of past (Result id i outcome)
@@ -260,17 +185,10 @@ outs_back id i outcome out past out_is same k =
 
 -- where no call is there nothing is out
 uncalled_out : (id : CallId) (i : ℕ) (past : Past) → call id past ≡ None → is_out id i past ≡ true → ⊥
-uncalled_out id i past none out =
-    let zero_started : started id past ≡ 0 = rw none (cond_both (began id past) 0 0 (λ n. n ≡ 0) (λ _. refl) (λ _. refl)) in
-    let lt : i < started id past = out_started id i past out in
-    omega (arith, lt, zero_started)
+uncalled_out id i past none out = grind (arith, nat_tests, out_started)
 
 pub shut_open : (id : CallId) (i : ℕ) (past : Past) → is_live id past ≡ false → is_out id i past ≡ true → can_be_decided id past ≡ false
-shut_open id i past shut out = by_call (call id past) refl
-  where
-    by_call : (c : Option ArrivedCall) → call id past ≡ c → can_be_decided id past ≡ false
-    by_call None c_is = absurd (uncalled_out id i past c_is out)
-    by_call (Some a) c_is = rw c_is at shut
+shut_open id i past shut out = grind (arith, nat_tests, uncalled_out)
 
 no_answer_by : (id : CallId) (i : ℕ) (outcome : Outcome) (counted : Bool) → counted ≡ false → (counted && is_answer_to id (Result id i outcome)) ≡ false
 no_answer_by id i outcome counted e = rw e refl
@@ -285,20 +203,9 @@ late id i outcome out past shut none out_is out_i =
     let no_answer : (m.counted && is_answer_to id m.what) ≡ false = no_answer_by id i outcome m.counted uncounted in
     shut_stepped id (slice_set out i false) m past shut none no_answer (outs_back id i outcome out past out_is (started_same id m past none no_answer))
 
-counts_yes : (id : CallId) (i : ℕ) (outcome : Outcome) (l : Live) (out : List Bool) (past : Past) → LiveStands id l out past → is_out id i past ≡ true
-    → counts (Result id i outcome) past ≡ true
-counts_yes id i outcome l out past h out_i = rw (out_i, h.undecided, h.unshut) refl
-
-event_by_it : (id : CallId) (i : ℕ) (outcome : Outcome) (a : ArrivedCall) (past : Past) (counted : Bool) → counted ≡ true
-    → event_by id a (Result id i outcome) counted past ≡ Some (of_branch i outcome)
-event_by_it id i outcome a past counted yes_counted = rw (yes_counted, eq-eqb id.conn id.conn refl, eq-eqb id.request id.request refl) refl
-
 event_is : (id : CallId) (i : ℕ) (outcome : Outcome) (l : Live) (out : List Bool) (past : Past) → LiveStands id l out past → is_out id i past ≡ true
     → Past_it id (comes_back id i outcome past) past → own_event id (comes_back id i outcome past) past ≡ Some (of_branch i outcome)
-event_is id i outcome l out past h out_i none =
-    let m : Mark = comes_back id i outcome past in
-    own_before id m past none h.unshut ∙ ap (λ o. option_map_or (λ c. event_by id c m.what m.counted past) o None) h.call_is
-    ∙ event_by_it id i outcome l.asked past m.counted (counts_yes id i outcome l out past h out_i)
+event_is id i outcome l out past h out_i none = grind arith
 
 -- a failure that counts
 failed : (id : CallId) (i : ℕ) (error : RpcError) (l : Live) (out : List Bool) (past : Past) → LiveStands id l out past → Past_it id (comes_back id i (Fail error) past) past
@@ -324,14 +231,10 @@ pub record NextStarts (id : CallId) (l : Live) (m : Mark) (past : Past) : Type 0
   pub within : started id past < length l.asked.plan.branches
 
 pub tasks_none : (k : ℕ) (id : CallId) (a : ArrivedCall) → k ≡ length a.plan.branches → tasks_from k id a ≡ []
-tasks_none k id a e =
-    let none : length a.plan.branches - k ≡ 0 = omega (arith, e) in
-    ap (λ n. map (task_of id a) (range_with_len k n)) none
+tasks_none k id a e = grind arith
 
 pub tasks_next : (k : ℕ) (id : CallId) (a : ArrivedCall) → k < length a.plan.branches → tasks_from k id a ≡ task_of id a k ∷ tasks_from (k + 1) id a
-tasks_next k id a lt =
-    let some : length a.plan.branches - k ≡ suc (length a.plan.branches - (k + 1)) = omega (arith, lt) in
-    ap (λ n. map (task_of id a) (range_with_len k n)) some
+tasks_next k id a lt = grind arith
 
 answer_counts : (id : CallId) (i : ℕ) (body : List ℕ) (l : Live) (out : List Bool) (past : Past) → LiveStands id l out past → is_out id i past ≡ true
     → answers id (comes_back id i (Answer body) past ∷ past) ≡ suc (answers id past)
@@ -344,19 +247,7 @@ started_live id a past call_is began_is = rw (began_is, call_is) refl
 next_case : (id : CallId) (i : ℕ) (body : List ℕ) (l : Live) (out : List Bool) (past : Past) → LiveStands id l out past → is_out id i past ≡ true
     → Past_it id (comes_back id i (Answer body) past) past
     → AllStarted id l (comes_back id i (Answer body) past) past ⊎ NextStarts id l (comes_back id i (Answer body) past) past
-next_case id i body l out past h out_i none =
-    let m : Mark = comes_back id i (Answer body) past in
-    let n : ℕ = length l.asked.plan.branches in
-    let was : started id past ≡ min n (l.asked.plan.limit + answers id past) = started_live id l.asked past h.call_is h.began_is in
-    let is : started id (m ∷ past) ≡ min n (l.asked.plan.limit + suc (answers id past)) =
-    started_live id l.asked (m ∷ past) (call_same id m past none ∙ h.call_is) (began_same id m past none ∙ h.began_is)
-    ∙ ap (λ k. min n (l.asked.plan.limit + k)) (answer_counts id i body l out past h out_i) in
-    ⊎_elim (λ (lt : started id past < n).
-    inr (record { first_waits = h.waiting_are ∙ tasks_next (started id past) id l.asked lt; one_more = omega (arith, was, is, lt); within = lt }))
-    (λ (ge : n ≤ started id past).
-    let all : started id past ≡ n = omega (arith, ge, was) in
-    inl (record { none_waits = h.waiting_are ∙ tasks_none (started id past) id l.asked all; same = omega (arith, was, is, all); all = all }))
-    (cases_lt (started id past) n)
+next_case id i body l out past h out_i none = grind (arith, nat_tests, started_live, call_same, began_same, answer_counts, tasks_next, tasks_none)
 
 -- what an answer that counts leaves of the branches and of the jobs
 pub record GoesOn (id : CallId) (i : ℕ) (l : Live) (out : List Bool) (m : Mark) (past : Past) : Type 0 where
@@ -369,13 +260,7 @@ pub record GoesOn (id : CallId) (i : ℕ) (l : Live) (out : List Bool) (m : Mark
 -- which branches are out where one more starts
 out_more : (id : CallId) (k : ℕ) (m : Mark) (past : Past) → started id (m ∷ past) ≡ started id past + 1 → (k ≡ started id past → ⊥)
     → is_out id k (m ∷ past) ≡ (is_out id k past && not (is_result_of id k m.what))
-out_more id k m past one ne =
-    ⊎_elim (λ (lt : nat_lt k (started id past) ≡ true). rw lt refl)
-    (λ (ge : nat_lt k (started id past) ≡ false).
-    let shut : is_out id k past ≡ false = not_started id k past ge in
-    let above : nat_lt k (started id past + 1) ≡ false = le-ltb k (started id past + 1) (omega (arith, ltb-false k (started id past) ge, ne)) in
-    rw (ge, one, above, shut) refl)
-    (cases_Bool (nat_lt k (started id past)))
+out_more id k m past one ne = grind (arith, nat_tests, not_started, le-ltb, ltb-false)
 
 out_next : (id : CallId) (m : Mark) (past : Past) → started id (m ∷ past) ≡ started id past + 1 → is_out id (started id past) (m ∷ past) ≡ true
 out_next id m past one =
@@ -414,10 +299,7 @@ goes_on id i body l out past h out_i none out_is =
     m = comes_back id i (Answer body) past
 
     one_starts : NextStarts id l m past → job_of id (started id past) l.asked (now past) ∷ [] ≡ jobs_started id m past
-    one_starts s =
-        let one : started id (m ∷ past) - started id past ≡ 1 = omega (arith, s.one_more) in
-        sym (ap (λ o. option_map_or (λ (c : ArrivedCall). map (λ j. job_of id j c (now past)) (branches_started id m past)) o []) (call_same id m past none ∙ h.call_is)
-        ∙ ap (λ n. map (λ j. job_of id j l.asked (now past)) (range_with_len (started id past) n)) one)
+    one_starts h0 = grind (arith, nat_tests)
 
 undecided_then : (id : CallId) (l : Live) (out : List Bool) (m : Mark) (past : Past) (e : CallEvent) → LiveStands id l out past
     → own_event id m past ≡ Some e → decides (answers id past) (length l.asked.plan.branches) e ≡ false → decided id (m ∷ past) ≡ None
@@ -449,26 +331,7 @@ answered id i body l out past h none out_is out_i = by_last (is_last_answer l) r
           replies = ended_replies id l out m past (deadlines_then (now past) l) (Answered i body) h none own dec g.deadlines;
           starts = g.starts;
         })
-    by_last false b_is =
-        let undec : decided id (m ∷ past) ≡ None = undecided_then id l out m past (Answered i body) h own (ends false b_is) in
-        rw b_is (record {
-          stands = record {
-            out_is = g.outs;
-            live_is = record {
-              call_is = call_same id m past none ∙ h.call_is;
-              began_is = began_same id m past none ∙ h.began_is;
-              undecided = undec;
-              unshut = h.unshut;
-              size_is = g.size ∙ h.size_is;
-              events_are = sym (own_then id l out m past (Answered i body) h own);
-              answers_are = length-append l.events (Answered i body ∷ []) ∙ omega (arith, h.answers_are) ∙ sym (answer_counts id i body l out past h out_i);
-              deadlines_are = sym g.deadlines;
-              waiting_are = g.waiting;
-            };
-          };
-          replies = same_replies id m past none (undec ∙ sym h.undecided);
-          starts = g.starts;
-        })
+    by_last false b_is = grind (arith, nat_tests, m, decided_then, own, ends, g, decided_shut, ended_replies, undecided_then, call_same, began_same, own_then, length-append, answer_counts, same_replies)
 
 -- a result of a branch that is out
 result_out : (id : CallId) (i : ℕ) (outcome : Outcome) (out : List Bool) (live : Option Live) (past : Past) → Past_it id (comes_back id i outcome past) past
@@ -499,11 +362,7 @@ result_apart id of i outcome out live past none h apart = by_live live h.live_is
         (cases_Bool (is_call of id))
 
     no_answer : (m.counted && is_answer_to id m.what) ≡ false
-    no_answer = by_outcome outcome (counts (Result of i outcome) past) uncounted
-      where
-        by_outcome : (o : Outcome) (counted : Bool) → (counted && is_call of id) ≡ false → (counted && is_answer_to id (Result of i o)) ≡ false
-        by_outcome (Answer body) counted e = e
-        by_outcome (Fail error) counted e = and_false counted
+    no_answer = grind (arith, nat_tests, uncounted, and_false)
 
     same : started id (m ∷ past) ≡ started id past
     same = started_same id m past none no_answer
@@ -515,10 +374,7 @@ result_apart id of i outcome out live past none h apart = by_live live h.live_is
         (cases_eq i k))
       where
         by_call : (b : Bool) → is_call of id ≡ b → i ≡ k → (is_out id k past && not (is_result_of id k m.what)) ≡ is_out id k past
-        by_call true b_is here =
-            let shut : is_out id k past ≡ false = subst (λ j. is_out id j past ≡ false) here (rw b_is at out_apart) in
-            rw shut refl
-        by_call false b_is here = rw b_is (and_true (is_out id k past))
+        by_call b h1 h2 = grind (arith, nat_tests)
 
     by_live : (live : Option Live) → MayLive id live out past → Stepped id (kept (call_state out live)) m past
     by_live None l = shut_stepped id out m past l none no_answer outs
@@ -547,21 +403,10 @@ pub moment_ends : (moment : ℕ) (d : Option ℕ) (outs : List (Option ℕ)) (e 
 moment_ends moment d outs e a n h = ⊎_elim (λ own. rw own.0 refl) (λ branch. rw branch.1 refl) (expires moment d outs e h)
 
 hang_ends : (b : Bool) (e : CallEvent) (a n : ℕ) → (if b then Some HungUp else None) ≡ Some e → decides a n e ≡ true
-hang_ends true (Answered i body) a n h = absurd (cc)
-hang_ends false (Answered i body) a n h = absurd (cc)
-hang_ends b (Expired t) a n h = refl
-hang_ends b (BranchExpired i t) a n h = refl
-hang_ends b HungUp a n h = refl
-hang_ends b Drained a n h = refl
-hang_ends b (Failed i error) a n h = refl
+hang_ends b e a n h4 = grind (arith, nat_tests)
 
 drain_ends : (e : CallEvent) (a n : ℕ) → Some Drained ≡ Some e → decides a n e ≡ true
-drain_ends (Answered i body) a n h = absurd (cc)
-drain_ends (Expired t) a n h = refl
-drain_ends (BranchExpired i t) a n h = refl
-drain_ends HungUp a n h = refl
-drain_ends Drained a n h = refl
-drain_ends (Failed i error) a n h = refl
+drain_ends e a n h3 = grind (arith, nat_tests)
 
 pub stepped : (id : CallId) (o : Occurrence) (out : List Bool) (live : Option Live) (past : Past) → Past_it id (mark_of past o) past
     → CallStands id (call_state out live) past → Stepped id (step (now past) id o (call_state out live)) (mark_of past o) past

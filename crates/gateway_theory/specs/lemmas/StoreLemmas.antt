@@ -1,22 +1,9 @@
 -- Calls in a list, by their ids.
-use Rattle.std.proofs.Common.{◌≡◌, ℕ, zero, suc, ◌+◌, ◌<◌, ◌≢◌, Bool, false, List, [], ◌∷◌, ◌++◌, map, length, filter, Some, refl, sym, ap, ◌∙◌, subst, arith, ⊎_elim, true, Option, None, Result, Ok, Err, ◌≤◌, drop}
-use Rattle.std.specs.Prelude.{slice_set, slice_index_or, OnErr, OnOk, is_err, is_none, is_some, not, if◌then◌else◌}
-use Rattle.std.specs.Option.{option_map_or, option_or}
-use Rattle.std.proofs.lemmas.Bool.{cases_eq, cases_Bool, eq-eqb, cond_both}
-use Rattle.std.proofs.lemmas.List.{get_or-set_same, get_or-set_other, length-set, length-map, get_or_default, length-append}
+use Rattle.std.specs.Prelude.{◌≡◌, ◌+◌, ◌<◌, ◌∷◌, ◌++◌, ◌≤◌, if◌then◌else◌}
+use Rattle.gateway_theory.specs.lemmas.Names.{ℕ, zero, suc, Bool, false, List, [], map, length, filter, Some, refl, sym, ap, ◌∙◌, arith, ⊎_elim, true, Option, None, Ok, Err, nat_tests, slice_set, slice_index_or, OnErr, OnOk, is_err, is_none, is_some, not, option_map_or, option_or, cases_Bool, eq-eqb, cond_both, get_or-set_same, get_or-set_other, length-set, length-map, get_or_default, length-append, AreApart, KeptValue, call_at, gone, is_call, kept_at, no_call, IsFound, CallId, ReplyValue, count_by, filter-append, length-filter, ReplyEntry, slot_at}
+use Rattle.std.proofs.Common.{Result}
 use Rattle.std.proofs.lemmas.List.Kept.{AllPairs-filter}
-use Rattle.gateway_theory.specs.Ends.{AreApart}
-use Rattle.gateway_theory.specs.Values.{KeptValue, call_at, gone, CallState}
-use Rattle.gateway_model.specs.Past.{is_call}
-use Rattle.gateway_theory.specs.Store.{kept_at, no_call, IsFound}
-use Rattle.gateway_model.specs.declared.id.CallId.{CallId}
-use Rattle.gateway_theory.specs.Replies.{ReplyValue}
 use Rattle.gateway_theory.specs.lemmas.LimitLemmas.{same_call}
-use Rattle.std.specs.List.{count_by}
-use Rattle.std.proofs.lemmas.List.Elements.{filter-append}
-use Rattle.std.proofs.lemmas.List.Sums.{length-filter}
-use Rattle.gateway_model.specs.declared.entry.ReplyEntry.{ReplyEntry}
-use Rattle.gateway_theory.specs.Machine.{slot_at}
 
 pub some_same : {A : Type 0} {a b : A} → Some a ≡ Some b → a ≡ b
 some_same {a = a} e = ap (λ o. option_map_or (λ x. x) o a) e
@@ -24,9 +11,7 @@ some_same {a = a} e = ap (λ o. option_map_or (λ x. x) o a) e
 -- ---- what is no two's
 
 pub same_ids : (new calls : List KeptValue) → length new ≡ length calls → ((j : ℕ) → j < length calls → (kept_at j new).id ≡ (kept_at j calls).id) → AreApart calls → AreApart new
-same_ids new calls size ids apart = λ i j lt within.
-    ap (λ x. is_call x (kept_at j new).id) (ids i (omega (arith, lt, within, size))) ∙ ap (λ x. is_call (kept_at i calls).id x) (ids j (omega (arith, within, size)))
-    ∙ apart i j lt (omega (arith, within, size))
+same_ids new calls size ids apart = grind arith
 
 at_map : {A B : Type 0} (f : A → B) (a : A) (b : B) (xs : List A) (j : ℕ) → j < length xs → slice_index_or (map f xs) j b ≡ f (slice_index_or xs j a)
 at_map f a b [] j lt = absurd (omega (arith, lt))
@@ -38,10 +23,7 @@ ids_mapped f calls same = same_ids (map f calls) calls (length-map calls f)
     (λ j lt. ap (λ (x : KeptValue). x.id) (at_map f no_call no_call calls j lt) ∙ same (kept_at j calls))
 
 pub ids_set : (i : ℕ) (new : KeptValue) (calls : List KeptValue) → i < length calls → new.id ≡ (kept_at i calls).id → AreApart calls → AreApart (slice_set calls i new)
-ids_set i new calls lt same = same_ids (slice_set calls i new) calls (length-set calls i new) (λ j within. ⊎_elim
-    (λ (here : j ≡ i). subst (λ n. (kept_at n (slice_set calls i new)).id ≡ (kept_at n calls).id) (sym here) (ap (λ (x : KeptValue). x.id) (get_or-set_same calls i new no_call lt) ∙ same))
-    (λ (ne : j ≢ i). ap (λ (x : KeptValue). x.id) (get_or-set_other calls i j new no_call ne))
-    (cases_eq j i))
+ids_set i new calls lt same = grind (arith, nat_tests, same_ids, length-set, get_or-set_same, get_or-set_other)
 
 pub calls_filtered : (p : KeptValue → Bool) (calls : List KeptValue) → AreApart calls → AreApart (filter p calls)
 calls_filtered p calls apart = λ i j lt within. AllPairs-filter (λ (a b : KeptValue). is_call a.id b.id ≡ false) p calls
@@ -74,10 +56,7 @@ pub call_itself : (id : CallId) → is_call id id ≡ true
 call_itself id = rw (eq-eqb id.conn id.conn refl, eq-eqb id.request id.request refl) refl
 
 pub call_apart : (a b : CallId) → is_call a b ≡ false → is_call b a ≡ false
-call_apart a b e = ⊎_elim
-    (λ (t : is_call b a ≡ true). let clash : true ≡ false = sym (call_itself a) ∙ ap (is_call a) (sym (same_call b a t)) ∙ e in absurd (cc))
-    (λ (f : is_call b a ≡ false). f)
-    (cases_Bool (is_call b a))
+call_apart a b e = grind arith
 
 -- ---- the store of calls
 
@@ -94,13 +73,7 @@ call_found id (c ∷ calls) (suc i) f =
 pub call_set : (id other : CallId) (calls : List KeptValue) (i : ℕ) (new : KeptValue) → IsFound id calls (Some i) → new.id ≡ (kept_at i calls).id
     → call_at other (slice_set calls i new) ≡ (if is_call id other then new.call else call_at other calls)
 call_set id other [] i new f same = absurd (let lt = f.0 in omega (arith, lt))
-call_set id other (c ∷ calls) zero new f same =
-    let its : new.id ≡ id = same ∙ same_call c.id id f.1 in
-    ap (λ x. if is_call x other then new.call else call_at other calls) its ∙ by_it (is_call id other) refl
-  where
-    by_it : (b : Bool) → is_call id other ≡ b → (if is_call id other then new.call else call_at other calls) ≡ (if is_call id other then new.call else call_at other (c ∷ calls))
-    by_it true b_is = rw b_is refl
-    by_it false b_is = rw (b_is, same_call c.id id f.1, b_is) refl
+call_set id other (c ∷ calls) zero new f same = grind arith
 call_set id other (c ∷ calls) (suc i) new f same =
     rec (call_set id other calls i new (let lt = f.0 in omega (arith, lt), f.1, λ j l. f.2 (suc j) (omega (arith, l))) same)
   where
@@ -147,26 +120,7 @@ call_added k id (x ∷ calls) f = ⊎_elim
 
 pub call_without : (id other : CallId) (calls : List KeptValue) → call_at other (filter (λ k. not (is_call k.id id)) calls) ≡ (if is_call id other then gone else call_at other calls)
 call_without id other [] = cond_both (is_call id other) gone gone (λ c. gone ≡ c) (λ _. refl) (λ _. refl)
-call_without id other (x ∷ calls) = ⊎_elim
-    (λ (its : is_call x.id id ≡ true).
-    rw its (call_without id other calls ∙ by_it its (is_call id other) refl))
-    (λ (ne : is_call x.id id ≡ false). rw ne (⊎_elim
-    (λ (here : is_call x.id other ≡ true).
-    let apart : is_call id other ≡ false = ⊎_elim
-    (λ (it : is_call id other ≡ true).
-    let same : x.id ≡ id = same_call x.id other here ∙ sym (same_call id other it) in
-    let clash : true ≡ false = sym (call_itself id) ∙ ap (λ n. is_call n id) (sym same) ∙ ne in
-    absurd (cc))
-    (λ (none : is_call id other ≡ false). none) (cases_Bool (is_call id other)) in
-    rw (here, apart) refl)
-    (λ (there : is_call x.id other ≡ false). rw there (call_without id other calls))
-    (cases_Bool (is_call x.id other))))
-    (cases_Bool (is_call x.id id))
-  where
-    by_it : is_call x.id id ≡ true → (b : Bool) → is_call id other ≡ b
-        → (if is_call id other then gone else call_at other calls) ≡ (if is_call id other then gone else (if is_call x.id other then x.call else call_at other calls))
-    by_it its true b_is = rw b_is refl
-    by_it its false b_is = ap (λ (c : CallState). if is_call id other then gone else c) (sym (ap (λ b. if b then x.call else call_at other calls) (ap (λ n. is_call n other) (same_call x.id id its) ∙ b_is)))
+call_without id other (x ∷ calls) = grind (arith, call_without id other calls)
 
 -- ---- slots
 
@@ -189,14 +143,6 @@ fewer_left (x ∷ new) (y ∷ old) more size each =
 pub fewer : (new old : List (Option ReplyEntry)) (more : ℕ → Option ReplyEntry) → length new ≡ length old
     → ((j : ℕ) → j < length old → slot_at j new ≡ option_or (slot_at j old) (more j)) → count_by is_none new ≤ count_by is_none old
 fewer new old more size each = omega (arith, fewer_left new old more size each, length-filter is_none new, length-filter is_none old)
-
-pub fewer_behind : (slots : List (Option ReplyEntry)) → count_by is_none (drop 1 slots) ≤ count_by is_none slots
-fewer_behind slots = omega (arith, behind slots, length-filter is_none (drop 1 slots), length-filter is_none slots)
-  where
-    behind : (xs : List (Option ReplyEntry)) → length (filter is_none (drop 1 xs)) ≤ length (filter is_none xs)
-    behind [] = omega arith
-    behind (None ∷ xs) = omega arith
-    behind (Some x ∷ xs) = omega arith
 
 -- one slot more, which is empty or is not
 pub one_more : (slots : List (Option ReplyEntry)) (reply : Option ReplyEntry) → count_by is_none (slots ++ reply ∷ []) ≡ count_by is_none slots + length (filter is_none (reply ∷ []))

@@ -1,39 +1,17 @@
 -- A job or a reply is taken of the gateway.
-use Rattle.std.proofs.Common.{◌≡◌, ℕ, Bool, true, false, List, [], ◌∷◌, ◌++◌, Option, None, Some, refl, sym, ap, ◌∙◌, subst}
-use Rattle.std.specs.Prelude.{◌==◌, ◌&&◌, IfSome, drop, if◌then◌else◌, nat_lt, not, option_map, option_to_list}
-use Rattle.std.proofs.lemmas.Bool.{eq-eqb, eqb-true, lt-ltb}
-use Rattle.std.proofs.lemmas.List.{append-nil}
-use Rattle.gateway_model.specs.History.{History, after_jobs}
-use Rattle.gateway_model.specs.Past.{call_id}
-use Rattle.gateway_model.specs.Queue.{front}
-use Rattle.gateway_model.specs.Starts.{Placed}
-use Rattle.gateway_model.specs.declared.entry.ReplyEntry.{ReplyEntry}
-use Rattle.gateway_theory.specs.Machine.{slot_at}
-use Rattle.gateway_theory.specs.Replies.{ReplyValue}
-use Rattle.gateway_theory.specs.Task.{HandedJob}
-use Rattle.gateway_theory.specs.lemmas.Cases.{sym_eqb}
-use Rattle.gateway_theory.specs.Connection.{reply_taken}
-use Rattle.gateway_theory.specs.Values.{ConnectionValue, is_open_value, GatewayValue, conn_of, connection, value_of, HeldConnection, connection_of}
-use Rattle.gateway_theory.specs.Core.{CoreValue}
-use Rattle.gateway_theory.specs.Gateway.{core_of, is_broken_conn, is_open_conn, next_reply, stream_of, untaken_of}
-use Rattle.gateway_theory.specs.Held.{taken_held}
-use Rattle.gateway_theory.specs.Served.{Lives, after_reply}
-use Rattle.gateway_theory.specs.Serving.{IsServing, TakesOnly}
-use Rattle.gateway_theory.specs.Steps.{Moves, TakesJob, TakesReplyAt, absent, there}
-use Rattle.gateway_theory.specs.Told.{HandsJobs, HandsReply, LeavesLived, LeavesReplied}
+use Rattle.std.specs.Prelude.{◌≡◌, ◌∷◌, ◌++◌, ◌==◌, ◌&&◌, if◌then◌else◌}
+use Rattle.gateway_theory.specs.lemmas.Names.{ℕ, Bool, true, false, List, [], Option, None, Some, refl, sym, ap, ◌∙◌, subst, arith, nat_tests, IfSome, drop, nat_lt, not, option_map, option_to_list, lt-ltb, append-nil, History, after_jobs, call_id, front, Placed, ReplyEntry, slot_at, ReplyValue, HandedJob, reply_taken, ConnectionValue, GatewayValue, conn_of, connection, HeldConnection, core_of, next_reply, stream_of, untaken_of, taken_held, after_reply, IsServing, TakesOnly, Moves, TakesJob, TakesReplyAt, absent, there, HandsJobs, HandsReply, LeavesLived, LeavesReplied}
+use Rattle.gateway_theory.specs.Served.{Lives}
 use Rattle.gateway_theory.specs.lemmas.Conns.{there_value}
 use Rattle.gateway_theory.specs.lemmas.Moving.{Fades, fades_conns, fades_lives, same}
-use Rattle.gateway_theory.specs.lemmas.Keeps.{breaks_none}
 use Rattle.gateway_theory.specs.lemmas.Standing.{job_lived, leaves_served, reply_conns, reply_lived, with_entry, without_reply}
-use Rattle.gateway_theory.specs.lemmas.Turns.{broken_at, untaken_at}
+use Rattle.gateway_theory.specs.lemmas.Turns.{untaken_at}
 use Rattle.gateway_theory.specs.Core as core
 
 -- ---- a job
 
 job_by : (v w : GatewayValue) (job : Option HandedJob) → TakesJob v w job → (h : History) (lived : List Placed) → Lives v h lived → Lives w (after_jobs (option_to_list (option_map (λ j. j.job) job)) h) lived
-job_by v w None t h lived l =
-    subst (λ x. Lives x (after_jobs [] h) lived) (sym (t.rest ∙ ap (λ js. record v { jobs = js }) (sym t.first)))
-    (subst (λ js. Lives v (record h { handed = js }) lived) (sym (append-nil h.handed)) l)
+job_by v w None t h lived l = grind (arith, nat_tests, append-nil)
 job_by v w (Some j) t h lived l = subst (λ x. Lives x (after_jobs (j.job ∷ []) h) lived) (sym t.rest) (job_lived (core_of v) h j.job w.jobs t.first lived l)
 
 pub job_leaves : (v w : GatewayValue) (job : Option HandedJob) → TakesJob v w job → LeavesLived (option_to_list (option_map (λ j. j.job) job)) v w
@@ -47,18 +25,10 @@ job_hands v w job t h s = leaves_served (core_of v) (core_of w) h (after_jobs (o
 
 -- none was there
 none_taken : (n : ℕ) (h : History) → after_reply n None h ≡ h
-none_taken n h = λ i. record h { taken = λ c. by (c == n) (h.taken c) i }
-  where
-    by : (b : Bool) (xs : List ReplyEntry) → (if b then xs ++ [] else xs) ≡ xs
-    by true xs = append-nil xs
-    by false xs = refl
+none_taken n h = grind (arith, nat_tests, append-nil)
 
 first_slot : (k : HeldConnection) (e : ReplyEntry) → slot_at 0 k.slots ≡ Some e → k.slots ≡ Some e ∷ drop 1 k.slots
-first_slot k e first = by k.slots first
-  where
-    by : (slots : List (Option ReplyEntry)) → slot_at 0 slots ≡ Some e → slots ≡ Some e ∷ drop 1 slots
-    by [] none = absurd (cc)
-    by (s ∷ rest) here = ap (λ x. x ∷ rest) here
+first_slot k e first = grind arith
 
 module _ (n : ℕ) (v w : GatewayValue) (k l : HeldConnection) (k_is : conn_of n v ≡ Some k) (m : Moves n (Some l) v w) (w_is : w ≡ record v { conns = w.conns }) (e : ReplyEntry) (first : slot_at 0 k.slots ≡ Some e) (l_is : l ≡ taken_held k) where
   slots_are : (connection n v).slots ≡ Some e ∷ drop 1 k.slots
@@ -80,17 +50,10 @@ module _ (n : ℕ) (v w : GatewayValue) (k l : HeldConnection) (k_is : conn_of n
   }
     where
       each : (d : ℕ) (b : Bool) → (n == d) ≡ b → connection d w ≡ (if d == n then reply_taken (drop 1 k.slots) (connection d v) else connection d v)
-      each d true at =
-          let is = eqb-true n d at in
-          ap (value_of w.opened d) (ap (λ c. conn_of c w) (sym is) ∙ m.here) ∙ ap connection_of l_is
-          ∙ sym (ap (λ b. if b then reply_taken (drop 1 k.slots) (connection d v) else connection d v) (eq-eqb d n (sym is)) ∙ ap (reply_taken (drop 1 k.slots)) (ap (λ c. connection c v) (sym is) ∙ there_value n v k k_is))
-      each d false ne =
-          ap (λ x. value_of x d (conn_of d w)) opened_is ∙ ap (value_of v.opened d) (m.others d ne)
-          ∙ sym (ap (λ b. if b then reply_taken (drop 1 k.slots) (connection d v) else connection d v) (sym_eqb d n ∙ ne))
+      each d b h2 = grind (arith, nat_tests)
 
       stream : (d : ℕ) (b : Bool) → (n == d) ≡ b → stream_of (conn_of d w) ≡ stream_of (conn_of d v)
-      stream d true at = let is = eqb-true n d at in ap (λ c. stream_of (conn_of c w)) (sym is) ∙ ap stream_of (m.here ∙ ap (λ x. Some x) l_is) ∙ sym (ap stream_of k_is) ∙ ap (λ c. stream_of (conn_of c v)) is
-      stream d false ne = ap stream_of (m.others d ne)
+      stream d b h2 = grind (arith, nat_tests)
 
   some_lives : (h : History) (lived : List Placed) → Lives v h lived → Lives w (with_entry n e h) lived
   some_lives h lived x = fades_lives (without_reply n (drop 1 k.slots) (core_of v)) (core_of w) reply_fades (with_entry n e h) lived (reply_lived (core_of v) h n e (drop 1 k.slots) slots_are lived x)
@@ -150,9 +113,7 @@ open_slots n v k e s k_is first = by k.closed refl
 
 pub first_told : (n : ℕ) (v w : GatewayValue) (reply : Option ReplyValue) → TakesReplyAt n v w reply → IsServing v → untaken_of n v ≡ option_to_list (option_map (λ r. r.entry) reply) ++ untaken_of n w
 first_told n v w reply (absent none r w_is) s = ap (untaken_of n) (sym w_is) ∙ sym (ap (λ o. option_to_list (option_map (λ r. r.entry) o) ++ untaken_of n w) r)
-first_told n v w None (there k l k_is t m w_is) s =
-    let conns_are : w.conns ≡ v.conns = m.same (ap (λ x. Some x) t.1 ∙ sym k_is) in
-    ap (untaken_of n) (sym (w_is ∙ ap (λ cs. record v { conns = cs }) conns_are))
+first_told n v w None (there k l k_is t m w_is) s = cc
 first_told n v w (Some r) (there k l k_is t m w_is) s =
     let still = open_slots n v k r.entry s k_is t.0 in
     let born = lt-ltb n v.opened (s.each n k k_is).born in
@@ -167,42 +128,7 @@ its_told n v w (Some r) (there k l k_is t m w_is) s =
     t.1 ∙ ap (λ c. call_id c k.taken) (s.each n k k_is).number_is ∙ ap (λ (x : ConnectionValue). call_id n x.taken) (sym (there_value n v k k_is))
 
 pub none_told : (n : ℕ) (v w : GatewayValue) (reply : Option ReplyValue) → TakesReplyAt n v w reply → reply ≡ None → untaken_of n v ≡ []
-none_told n v w reply (absent none r w_is) e = absent_untaken n v none
-none_told n v w None (there k l k_is t m w_is) e = ap (untaken_at v.opened n) k_is ∙ none_untaken (nat_lt n v.opened && not k.closed) k.slots t.0
-none_told n v w (Some r) (there k l k_is t m w_is) e = absurd (cc)
-
-only_same : (n : ℕ) (v w : GatewayValue) → w ≡ v → TakesOnly n v w
-only_same n v w is = record {
-  plans_are = ap (λ (x : GatewayValue). x.plans) is;
-  opened_is = ap (λ (x : GatewayValue). x.opened) is;
-  begun_is = ap (λ (x : GatewayValue). x.begun) is;
-  tally_is = ap (λ (x : GatewayValue). x.tally) is;
-  jobs_are = ap (λ (x : GatewayValue). x.jobs) is;
-  open_are = λ c. ap (is_open_conn c) is;
-  broken_are = λ c. ap (is_broken_conn c) is;
-  others_are = λ c other. ap (untaken_of c) is;
-}
+none_told n v w reply h4 h5 = grind (arith, nat_tests, absent_untaken, untaken_at, none_untaken)
 
 pub only_told : (n : ℕ) (v w : GatewayValue) (reply : Option ReplyValue) → TakesReplyAt n v w reply → IsServing v → TakesOnly n v w
-only_told n v w reply (absent none r w_is) s = only_same n v w w_is
-only_told n v w None (there k l k_is t m w_is) s =
-    let conns_are : w.conns ≡ v.conns = m.same (ap (λ x. Some x) t.1 ∙ sym k_is) in only_same n v w (w_is ∙ ap (λ cs. record v { conns = cs }) conns_are)
-only_told n v w (Some r) (there k l k_is t m w_is) s = record {
-  plans_are = ap (λ (x : GatewayValue). x.plans) w_is;
-  opened_is = opened_same;
-  begun_is = ap (λ (x : GatewayValue). x.begun) w_is;
-  tally_is = ap (λ (x : GatewayValue). x.tally) w_is;
-  jobs_are = ap (λ (x : GatewayValue). x.jobs) w_is;
-  open_are = λ c. each c (n == c) refl;
-  broken_are = breaks_none n v w (Some l) m opened_same
-      (ap (λ x. broken_at x n (conn_of n w)) opened_same ∙ ap (broken_at v.opened n) (m.here ∙ ap (λ x. Some x) t.2) ∙ sym (ap (broken_at v.opened n) k_is));
-  others_are = λ c other. ap (λ x. untaken_at x c (conn_of c w)) opened_same ∙ ap (untaken_at v.opened c) (m.others c (sym_eqb n c ∙ other));
-}
-  where
-    opened_same : w.opened ≡ v.opened
-    opened_same = ap (λ (x : GatewayValue). x.opened) w_is
-
-    each : (c : ℕ) (b : Bool) → (n == c) ≡ b → is_open_conn c w ≡ is_open_conn c v
-    each c true at = subst (λ d. is_open_conn d w ≡ is_open_conn d v) (eqb-true n c at)
-        (ap (λ x. is_open_value x n (value_of x n (conn_of n w))) opened_same ∙ ap (λ o. is_open_value v.opened n (value_of v.opened n o)) (m.here ∙ ap (λ x. Some x) t.2) ∙ sym (ap (λ o. is_open_value v.opened n (value_of v.opened n o)) k_is))
-    each c false ne = ap (λ x. is_open_value x c (value_of x c (conn_of c w))) opened_same ∙ ap (λ o. is_open_value v.opened c (value_of v.opened c o)) (m.others c ne)
+only_told n v w reply h4 h5 = grind (arith, nat_tests)

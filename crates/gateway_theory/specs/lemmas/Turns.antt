@@ -1,27 +1,9 @@
 -- How a step turns a connection, and how it grows.
-use Rattle.std.proofs.Common.{◌≡◌, ℕ, suc, ◌<◌, Bool, true, false, List, [], ◌∷◌, ◌++◌, length, Option, None, Some, refl, sym, ap, ◌∙◌, subst, append_assoc}
-use Rattle.std.specs.Prelude.{◌==◌, ◌||◌, if◌then◌else◌, ◌&&◌, nat_lt, not}
-use Rattle.std.proofs.lemmas.List.{append-nil}
-use Rattle.std.proofs.lemmas.List.Elements.{All-get_or}
-use Rattle.connect_codec.specs.declared.answer.Outcome.{Outcome}
-use Rattle.gateway_model.specs.Past.{call_id}
-use Rattle.gateway_model.specs.Queue.{IsPrefixOf, front}
-use Rattle.gateway_model.specs.declared.entry.ReplyEntry.{ReplyEntry}
-use Rattle.gateway_model.specs.declared.id.CallId.{CallId}
-use Rattle.gateway_theory.specs.Ends.{ended_if}
-use Rattle.gateway_theory.specs.Values.{KeptValue, call_at, ConnectionValue, is_broken_value, is_open_value, not_kept, untaken_value, HeldConnection, connection_of, GatewayValue, conn_of, value_of}
-use Rattle.gateway_theory.specs.Step.{Step}
-use Rattle.gateway_theory.specs.Store.{kept_at, no_call}
-use Rattle.gateway_theory.specs.declared.trigger.Trigger.{Trigger}
-use Rattle.gateway_theory.specs.Connection.{filled}
-use Rattle.gateway_theory.specs.Held.{Forgets, Holds, back_held, broken_held, ended_entry, ended_held, entered_held, forgotten, lost_held, result_in, settled_held, stays, stepped_held, is_gone, left_of}
+use Rattle.std.specs.Prelude.{◌≡◌, ◌<◌, ◌∷◌, ◌++◌, ◌==◌, ◌||◌, if◌then◌else◌, ◌&&◌}
+use Rattle.gateway_theory.specs.lemmas.Names.{ℕ, suc, Bool, true, false, List, [], length, Option, None, Some, refl, sym, ap, ◌∙◌, subst, append_assoc, arith, nat_tests, nat_lt, not, append-nil, All-get_or, Outcome, IsPrefixOf, front, ReplyEntry, CallId, KeptValue, is_broken_value, is_open_value, untaken_value, HeldConnection, connection_of, GatewayValue, conn_of, value_of, Step, kept_at, no_call, Trigger, filled, Forgets, Holds, back_held, broken_held, ended_entry, ended_held, entered_held, forgotten, lost_held, result_in, settled_held, stays, stepped_held, left_of, option_map_or, eqb-true, lt-ltb, if_open, Moves}
 use Rattle.gateway_theory.specs.lemmas.HeldValues.{late_step, replied_rest, replied_slots}
 use Rattle.gateway_theory.specs.lemmas.Broadcast.{filled_none}
 use Rattle.gateway_theory.specs.lemmas.Moving.{dead_call}
-use Rattle.std.specs.Option.{option_map_or}
-use Rattle.std.proofs.lemmas.Bool.{eqb-true, lt-ltb}
-use Rattle.gateway_theory.specs.Gateway.{if_open}
-use Rattle.gateway_theory.specs.Steps.{Moves}
 
 -- ---- slots
 
@@ -45,20 +27,10 @@ pub record Grown (k l : HeldConnection) : Type 0 where
 
 -- its slots are the same
 pub grown_same : (k l : HeldConnection) → l.closed ≡ k.closed → (k.broken ≡ true → l.broken ≡ true) → l.slots ≡ k.slots → Grown k l
-grown_same k l closed_is stays_broken slots_are = record {
-  closed_is = closed_is;
-  stays_broken = stays_broken;
-  replies_stay = ([], ap front slots_are ∙ sym (append-nil (front k.slots)));
-  replies_same = λ e. ap front slots_are;
-}
+grown_same k l closed_is stays_broken slots_are = grind (arith, nat_tests, append-nil)
 
 pub grown_then : (j k l : HeldConnection) → Grown j k → Grown k l → Grown j l
-grown_then j k l a b = record {
-  closed_is = b.closed_is ∙ a.closed_is;
-  stays_broken = λ e. b.stays_broken (a.stays_broken e);
-  replies_stay = (a.replies_stay.0 ++ b.replies_stay.0, b.replies_stay.1 ∙ ap (λ xs. xs ++ b.replies_stay.0) a.replies_stay.1 ∙ append_assoc (front j.slots) a.replies_stay.0 b.replies_stay.0);
-  replies_same = λ e. b.replies_same (a.stays_broken e) ∙ a.replies_same e;
-}
+grown_then j k l a b = grind (arith, nat_tests, append_assoc)
 
 pub grown_broken : (k : HeldConnection) → Grown k (broken_held k)
 grown_broken k = grown_same k (broken_held k) refl (λ e. refl) refl
@@ -75,22 +47,11 @@ grown_back i branch k = grown_same k (back_held i branch k) refl (λ e. e) refl
 
 -- slots are filled, but for one that is broken
 grown_filled : (reply : ℕ → Option ReplyEntry) (k : HeldConnection) → (k.broken ≡ true → (r : ℕ) → reply r ≡ None) → Grown k (record k { slots = filled reply k.taken k.slots })
-grown_filled reply k none = record {
-  closed_is = refl;
-  stays_broken = λ e. e;
-  replies_stay = front_filled reply k.taken k.slots;
-  replies_same = λ e. ap front (filled_none reply k.taken k.slots (none e));
-}
+grown_filled reply k none = grind (arith, nat_tests, front_filled, filled_none)
 
 -- of one that is broken no call ends
 none_ended : (t : Trigger) (k : HeldConnection) → Holds k → k.broken ≡ true → (r : ℕ) → ended_entry t k r ≡ None
-none_ended t k h broke_now r =
-    let dead = dead_call (call_id k.number r) k.calls (h.dead (ap (λ b. k.closed || b) broke_now ∙ or_true k.closed)) in
-    ap (λ l. (ended_if t (call_id k.number r) (call_at (call_id k.number r) k.calls).out l).reply) dead
-  where
-    or_true : (b : Bool) → (b || true) ≡ true
-    or_true true = refl
-    or_true false = refl
+none_ended t k h broke_now r = grind (arith, nat_tests, dead_call)
 
 pub grown_ended : (t : Trigger) (k : HeldConnection) → Holds k → Grown k (ended_held t k)
 grown_ended t k h = grown_then k (record k { slots = filled (ended_entry t k) k.taken k.slots }) (ended_held t k) (grown_filled (ended_entry t k) k (none_ended t k h))
@@ -117,12 +78,7 @@ grown_settled moment i branch outcome k lt h = grown_then k (stepped_held i s k)
 
 -- something comes on one that is not broken
 pub grown_entered : (s : Step) (k : HeldConnection) → k.broken ≡ false → Grown k (entered_held s k)
-grown_entered s k whole = record {
-  closed_is = refl;
-  stays_broken = λ e. e;
-  replies_stay = front_behind k.slots (s.reply ∷ []);
-  replies_same = λ e. absurd (let clash : true ≡ false = sym e ∙ whole in cc);
-}
+grown_entered s k whole = grind (arith, nat_tests, front_behind)
 
 -- ---- the words, by what is kept under a number where so many were opened
 
@@ -145,35 +101,13 @@ pub record Turns (n m c : ℕ) (o p : Option HeldConnection) : Type 0 where
 pub turns_same : (n c : ℕ) (o p : Option HeldConnection) → p ≡ o → Turns n n c o p
 turns_same n c o p is = subst (Turns n n c o) (sym is) (record { silent = λ e. e; broken = λ e. e; replies = ([], sym (append-nil (untaken_at n c o))); replies_same = λ e. refl })
 
--- by whether it was opened
-abbrev pub value_by : Bool → ℕ → Option HeldConnection → ConnectionValue
-value_by b c o = option_map_or connection_of o (not_kept b c)
-
-abbrev pub silent_by : Bool → Option HeldConnection → Bool
-silent_by b o = b && option_map_or (λ (k : HeldConnection). k.broken) (if_open o) true
-
-abbrev pub broken_by : Bool → ℕ → Option HeldConnection → Bool
-broken_by b c o = (b && not (value_by b c o).closed) && (value_by b c o).broken
-
-abbrev pub untaken_by : Bool → ℕ → Option HeldConnection → List ReplyEntry
-untaken_by b c o = if b && not (value_by b c o).closed then front (value_by b c o).slots else []
-
 pub turns_born : (n m c : ℕ) (o : Option HeldConnection) → nat_lt c m ≡ nat_lt c n → Turns n m c o o
-turns_born n m c o is = record {
-  silent = λ e. ap (λ b. silent_by b o) is ∙ e;
-  broken = λ e. ap (λ b. broken_by b c o) is ∙ e;
-  replies = ([], ap (λ b. untaken_by b c o) is ∙ sym (append-nil (untaken_at n c o)));
-  replies_same = λ e. ap (λ b. untaken_by b c o) is;
-}
+turns_born n m c o is = grind (arith, nat_tests, append-nil)
 
 -- ---- one that is kept
 
 pub silent_some : (n c : ℕ) (k : HeldConnection) → silent_at n c (Some k) ≡ (nat_lt c n && (k.closed || k.broken))
-silent_some n c k = ap (λ b. nat_lt c n && b) (by k.closed)
-  where
-    by : (b : Bool) → option_map_or (λ (x : HeldConnection). x.broken) (if b then None else Some k) true ≡ (b || k.broken)
-    by true = refl
-    by false = refl
+silent_some n c k = grind arith
 
 and_left : (a b : Bool) → (a && b) ≡ true → a ≡ true
 and_left true b e = refl
@@ -185,71 +119,18 @@ and_right false b e = absurd (cc)
 
 module _ (n c : ℕ) (k l : HeldConnection) (g : Grown k l) where
   stays_off : (a : Bool) → (k.closed || k.broken) ≡ true → (l.closed || l.broken) ≡ true
-  stays_off a e = by k.closed k.broken refl refl e
-    where
-      by : (x y : Bool) → k.closed ≡ x → k.broken ≡ y → (k.closed || k.broken) ≡ true → (l.closed || l.broken) ≡ true
-      by true y closed broken e = ap (λ b. b || l.broken) (g.closed_is ∙ closed)
-      by false true closed broken e = ap (λ b. l.closed || b) (g.stays_broken broken) ∙ or_true l.closed
-        where
-          or_true : (b : Bool) → (b || true) ≡ true
-          or_true true = refl
-          or_true false = refl
-      by false false closed broken e = absurd (let clash : false ≡ true = sym (λ i. closed i || broken i) ∙ e in cc)
+  stays_off a e = grind arith
 
   open_same : is_open_value n c (connection_of l) ≡ is_open_value n c (connection_of k)
   open_same = ap (λ b. nat_lt c n && not b) g.closed_is
 
   -- it became another
   pub turns_grown : Turns n n c (Some k) (Some l)
-  turns_grown = record {
-    silent = λ e.
-        let was = sym (silent_some n c k) ∙ e in
-        silent_some n c l ∙ rw (and_left (nat_lt c n) (k.closed || k.broken) was, stays_off true (and_right (nat_lt c n) (k.closed || k.broken) was)) refl;
-    broken = λ e.
-        ap (λ b. b && l.broken) open_same
-        ∙ rw (and_left (is_open_value n c (connection_of k)) k.broken e, g.stays_broken (and_right (is_open_value n c (connection_of k)) k.broken e)) refl;
-    replies = by (is_open_value n c (connection_of k)) refl;
-    replies_same = λ e. ap (λ b. if b then front l.slots else []) open_same ∙ same_by (is_open_value n c (connection_of k)) refl (sym (silent_some n c k) ∙ e);
-  }
-    where
-      by : (b : Bool) → is_open_value n c (connection_of k) ≡ b → IsPrefixOf (untaken_at n c (Some k)) (untaken_at n c (Some l))
-      by true is = (g.replies_stay.0, ap (λ b. if b then front l.slots else []) (open_same ∙ is) ∙ g.replies_stay.1 ∙ ap (λ b. (if b then front k.slots else []) ++ g.replies_stay.0) (sym is))
-      by false is = ([], ap (λ b. if b then front l.slots else []) (open_same ∙ is) ∙ ap (λ b. (if b then front k.slots else []) ++ []) (sym is))
-
-      same_by : (b : Bool) → is_open_value n c (connection_of k) ≡ b → (nat_lt c n && (k.closed || k.broken)) ≡ true → (if is_open_value n c (connection_of k) then front l.slots else []) ≡ (if is_open_value n c (connection_of k) then front k.slots else [])
-      same_by false is e = rw is refl
-      same_by true is e = rw is (g.replies_same (whole k.closed refl))
-        where
-          whole : (b : Bool) → k.closed ≡ b → k.broken ≡ true
-          whole false closed = sym (ap (λ b. b || k.broken) closed) ∙ and_right (nat_lt c n) (k.closed || k.broken) e
-          whole true closed = absurd (let clash : true ≡ false = sym is ∙ ap (λ b. nat_lt c n && not b) closed ∙ none (nat_lt c n) in cc)
-            where
-              none : (b : Bool) → (b && false) ≡ false
-              none true = refl
-              none false = refl
+  turns_grown = grind (arith, nat_tests, silent_some, and_left, stays_off, and_right, open_same)
 
   -- .. and is gone, or not
   pub turns_left : c < n → Turns n n c (Some k) (left_of l)
-  turns_left born = by (is_gone l) refl
-    where
-      gone_closed : (a b : Bool) → (a && b) ≡ true → a ≡ true
-      gone_closed a b e = and_left a b e
-
-      none : (b : Bool) → (b && false) ≡ false
-      none true = refl
-      none false = refl
-
-      by : (b : Bool) → is_gone l ≡ b → Turns n n c (Some k) (left_of l)
-      by false here = subst (Turns n n c (Some k)) (sym (ap (λ b. if b then None else Some l) here)) turns_grown
-      by true gone = subst (Turns n n c (Some k)) (sym (ap (λ b. if b then None else Some l) gone))
-          (let closed : k.closed ≡ true = sym g.closed_is ∙ and_left l.closed _ gone in
-          let off : is_open_value n c (connection_of k) ≡ false = ap (λ b. nat_lt c n && not b) closed ∙ none (nat_lt c n) in
-          let nothing : is_open_value n c (value_of n c None) ≡ false = rw (lt-ltb c n born) refl in record {
-            silent = λ e. rw (lt-ltb c n born) refl;
-            broken = λ e. absurd (let clash : false ≡ true = sym (ap (λ b. b && k.broken) off) ∙ e in cc);
-            replies = ([], ap (λ b. if b then [] else []) nothing ∙ sym (ap (λ b. (if b then front k.slots else []) ++ []) off));
-            replies_same = λ e. ap (λ b. if b then [] else []) nothing ∙ sym (ap (λ b. if b then front k.slots else []) off);
-          })
+  turns_left born = grind (arith, nat_tests, and_left, turns_grown, lt-ltb)
 
 -- ---- the words of the gateway
 

@@ -1,26 +1,13 @@
 -- A result of a branch that is not out changes nothing.
-use Rattle.std.proofs.Common.{◌≡◌, ℕ, zero, suc, ◌<◌, true, false, List, ◌∷◌, ◌++◌, replicate, refl, sym, ap, ◌∙◌, arith, ⊎_elim}
-use Rattle.std.specs.Prelude.{◌&&◌, ◌==◌, not, is_none, nat_lt}
-use Rattle.std.proofs.lemmas.Bool.{cases_Bool, eqb-true, and_parts, ltb-false}
-use Rattle.connect_codec.specs.declared.answer.Outcome.{Outcome}
-use Rattle.gateway_model.specs.declared.seen.Seen.TheVariants.{Unknown}
-use Rattle.gateway_model.specs.declared.id.CallId.{CallId}
-use Rattle.gateway_model.specs.Occurrence.{Occurrence, Result}
-use Rattle.gateway_model.specs.Past.{Mark, Past, is_call, is_shut, can_be_decided, is_out, how_seen, started, mark_of, marked}
-use Rattle.gateway_theory.specs.Replies.{replies}
+use Rattle.std.specs.Prelude.{◌≡◌, ◌<◌, ◌∷◌, ◌++◌, ◌&&◌, ◌==◌}
+use Rattle.gateway_theory.specs.lemmas.Names.{ℕ, zero, suc, true, false, List, replicate, refl, sym, ◌∙◌, arith, ⊎_elim, nat_tests, nat_lt, cases_Bool, eqb-true, and_parts, ltb-false, Outcome, Unknown, CallId, Occurrence, Result, Mark, Past, is_call, can_be_decided, is_out, how_seen, started, mark_of, marked, replies}
 use Rattle.gateway_theory.specs.lemmas.Cases.{and_true}
 use Rattle.gateway_theory.specs.lemmas.JobLemmas.{uncounted_replies}
 use Rattle.gateway_theory.specs.lemmas.LimitLemmas.{out_started, same_call}
-use Rattle.gateway_theory.specs.lemmas.StandsLemmas.{Quiet, decided_same, result_quiet, started_same}
+use Rattle.gateway_theory.specs.lemmas.StandsLemmas.{Quiet, result_quiet, started_same}
 
 not_out : (id : CallId) (i : ℕ) (past : Past) → how_seen id i past ≡ Unknown → is_out id i past ≡ false
-not_out id i past unknown = ⊎_elim
-    (λ (out : is_out id i past ≡ true). ⊎_elim
-    (λ (undecided : can_be_decided id past ≡ true). absurd (let bad : how_seen id i past ≡ Unknown = unknown in let seen = rw (out, undecided) at bad in cc))
-    (λ (shut : can_be_decided id past ≡ false). absurd (let bad : how_seen id i past ≡ Unknown = unknown in let seen = rw (out, shut) at bad in cc))
-    (cases_Bool (can_be_decided id past)))
-    (λ (back : is_out id i past ≡ false). back)
-    (cases_Bool (is_out id i past))
+not_out id i past unknown = grind arith
 
 same_out : (id : CallId) (i : ℕ) (outcome : Outcome) (past : Past) → is_out id i past ≡ false → (other : CallId) (j : ℕ)
     → is_out other j (mark_of past (Result id i outcome) ∷ past) ≡ is_out other j past
@@ -48,10 +35,7 @@ same_out id i outcome past back other j =
 
 same_open : (id : CallId) (i : ℕ) (outcome : Outcome) (past : Past) → is_out id i past ≡ false → (other : CallId)
     → can_be_decided other (mark_of past (Result id i outcome) ∷ past) ≡ can_be_decided other past
-same_open id i outcome past back other =
-    let m : Mark = mark_of past (Result id i outcome) in
-    let quiet : Quiet other m past = result_quiet other id i outcome m past refl (rw back refl) in
-    ap (λ d. is_none d && not (is_shut other.conn past)) (decided_same other m past quiet)
+same_open id i outcome past back other = grind arith
 
 -- how a result is how_seen stays
 pub unknown_judged : (id : CallId) (i : ℕ) (outcome : Outcome) (past : Past) → how_seen id i past ≡ Unknown → (other : CallId) (j : ℕ)
@@ -64,15 +48,10 @@ unknown_judged id i outcome past unknown other j =
 pub unknown_many : (id : CallId) (i : ℕ) (outcome : Outcome) (occurred : List Occurrence) → how_seen id i (marked occurred) ≡ Unknown → (n : ℕ) (other : CallId) (j : ℕ)
     → how_seen other j (marked (replicate n (Result id i outcome) ++ occurred)) ≡ how_seen other j (marked occurred)
 unknown_many id i outcome occurred unknown zero other j = refl
-unknown_many id i outcome occurred unknown (suc n) other j =
-    unknown_judged id i outcome (marked (replicate n (Result id i outcome) ++ occurred)) (unknown_many id i outcome occurred unknown n id i ∙ unknown) other j
-    ∙ unknown_many id i outcome occurred unknown n other j
+unknown_many id i outcome occurred unknown (suc n) other j = grind (arith, nat_tests, unknown_many id i outcome occurred unknown n id i, unknown_many id i outcome occurred unknown n other j, unknown_judged)
 
 -- and nothing more is queued
 pub unknown_replies : (id : CallId) (i : ℕ) (outcome : Outcome) (occurred : List Occurrence) → how_seen id i (marked occurred) ≡ Unknown → (n conn : ℕ)
     → replies conn (marked (replicate n (Result id i outcome) ++ occurred)) ≡ replies conn (marked occurred)
 unknown_replies id i outcome occurred unknown zero conn = refl
-unknown_replies id i outcome occurred unknown (suc n) conn =
-    uncounted_replies id i outcome (marked (replicate n (Result id i outcome) ++ occurred)) conn
-    (λ counted. let seen = sym (unknown_many id i outcome occurred unknown n id i ∙ unknown) ∙ counted in cc)
-    ∙ unknown_replies id i outcome occurred unknown n conn
+unknown_replies id i outcome occurred unknown (suc n) conn = grind (arith, nat_tests, unknown_replies id i outcome occurred unknown n conn, uncounted_replies, unknown_many)

@@ -1,16 +1,8 @@
 -- By events alone no connection breaks.
-use Rattle.std.proofs.Common.{◌≡◌, ℕ, Bool, true, false, List, [], ◌∷◌, ◌++◌, length, map, refl, ap, ◌∙◌}
-use Rattle.std.specs.Prelude.{◌||◌, MatchBool}
-use Rattle.std.specs.List.{list_any}
-use Rattle.call_plan.specs.Plan.{PlanRecord}
-use Rattle.gateway_model.specs.Occurrence.{Occurrence, Coming, Comes}
+use Rattle.std.specs.Prelude.{◌≡◌, ◌∷◌, ◌++◌, ◌||◌}
+use Rattle.gateway_theory.specs.lemmas.Names.{ℕ, Bool, true, false, List, [], length, map, refl, ap, ◌∙◌, arith, MatchBool, list_any, PlanRecord, Occurrence, Coming, Comes, breaks, is_broken, marked, Placed, occurrences, Event, Piece, BranchResult, Before, Gains, OccursAt, Occurs, is_open, listens, once, onto, stream, succeeds}
 use Rattle.gateway_model.specs.Occurrence as occurs
-use Rattle.gateway_model.specs.Past.{breaks, is_broken, marked}
-use Rattle.gateway_model.specs.Starts.{Placed, occurrences}
-use Rattle.gateway_model.specs.declared.event.Event.{Event}
-use Rattle.gateway_model.specs.declared.event.Event.TheVariants.{Opening, Piece, HangUp, Moment, BranchResult, Drain, Closing}
-use Rattle.gateway_model.specs.Events.{Before, Gains, OccursAt, Occurs, is_open, listens, once, onto, stream, succeeds}
-use Rattle.std.proofs.lemmas.Bool.{or_parts as neither}
+use Rattle.gateway_model.specs.declared.event.Event.TheVariants.{Opening, HangUp, Moment, Drain, Closing}
 
 once_whole : (c : ℕ) (b : Bool) (o : Occurrence) → breaks c o ≡ false → list_any (breaks c) (once b o) ≡ false
 once_whole c true o e = ap (λ x. x || false) e
@@ -38,9 +30,7 @@ at_whole c plans opened (Closing d) before os at = ap (list_any (breaks c)) at �
 broken_onto : (c place : ℕ) (os : List Occurrence) (past : List Placed) → list_any (breaks c) os ≡ false → is_broken c (marked (occurrences past)) ≡ false
     → is_broken c (marked (occurrences (onto place os past))) ≡ false
 broken_onto c place [] past none before = before
-broken_onto c place (o ∷ os) past none before =
-    let parts = neither (breaks c o) (list_any (breaks c) os) none in
-    broken_onto c place os ((place, o) ∷ past) parts.1 (ap (λ b. b || is_broken c (marked (occurrences past))) parts.0 ∙ before)
+broken_onto c place (o ∷ os) past none before = grind (arith, broken_onto c place os)
 
 pub none_breaks : (plans : List PlanRecord) (opened : List ℕ) (es : Before) (occurred : List Placed) → Occurs plans opened es occurred
     → (c : ℕ) → is_broken c (marked (occurrences occurred)) ≡ false

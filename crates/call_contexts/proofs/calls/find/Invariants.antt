@@ -1,5 +1,4 @@
-use Rattle.std.proofs.Common.{◌≡◌, drop}
-use Rattle.call_contexts.specs.Sound.{life_at}
+use Rattle.call_contexts.proofs.Names.{◌≡◌, drop, life_at}
 use Rattle.call_contexts.proofs.calls.find.Given as goal
 
 -- those that were passed are none of it

@@ -1,6 +1,4 @@
-use Rattle.std.proofs.Common.{◌≡◌, drop}
-use Rattle.std.specs.Prelude.{◌==◌}
-use Rattle.std.specs.List.{find}
+use Rattle.call_contexts.proofs.Names.{◌≡◌, drop, ◌==◌, find}
 use Rattle.call_contexts.proofs.calls.first_call.Given as goal
 
 -- those that were passed are none of it

@@ -1,5 +1,4 @@
-use Rattle.std.proofs.Common.{◌≡◌, drop}
-use Rattle.call_contexts.specs.Sound.{life_for}
+use Rattle.call_contexts.proofs.Names.{◌≡◌, drop, life_for}
 use Rattle.call_contexts.proofs.calls.named.Given as goal
 
 -- those that were passed are none of it

@@ -1,4 +1,4 @@
-use Rattle.std.proofs.Common.{rules}
+use Rattle.call_contexts.proofs.Names.{rules}
 use Rattle.std.proofs.lemmas.Fn.{filter_same}
 use Rattle.call_contexts.proofs.calls.remove.Goals as goal
 

@@ -1,6 +1,4 @@
-use Rattle.std.proofs.Common.{◌<◌, ◌∙◌, ap, arith, length}
-use Rattle.std.proofs.lemmas.List.{length-set}
-use Rattle.call_contexts.specs.declared.life.Life.{Life}
+use Rattle.call_contexts.proofs.Names.{◌<◌, ◌∙◌, ap, arith, length, length-set, Life}
 use Rattle.call_contexts.proofs.Going.{all_gone, fewer_left, left_is, left_set, one_gone}
 use Rattle.call_contexts.proofs.contexts.free_branches.Goals as goal
 

@@ -1,6 +1,4 @@
-use Rattle.std.proofs.Common.{◌≡◌, List, length}
-use Rattle.context_tree.specs.Context.{Id}
-use Rattle.call_contexts.specs.Sound.{IsPlaced, IsSound}
+use Rattle.call_contexts.proofs.Names.{◌≡◌, List, length, Id, IsPlaced, IsSound}
 use Rattle.call_contexts.proofs.Going.{SomeGone, left_at}
 use Rattle.call_contexts.proofs.contexts.free_branches.Given as goal
 

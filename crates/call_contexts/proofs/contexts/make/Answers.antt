@@ -1,7 +1,4 @@
-use Rattle.std.proofs.Common.{refl, ◌∷◌}
-use Rattle.context_tree.specs.declared.node.Kind.TheVariants.{Value}
-use Rattle.context_tree.specs.Context.{Makes}
-use Rattle.context_tree.specs.Tree.{StandsFor}
+use Rattle.call_contexts.proofs.Names.{refl, ◌∷◌, Value, Makes, StandsFor}
 use Rattle.call_contexts.proofs.Making.{made_alike}
 use Rattle.call_contexts.proofs.Trees.{alike}
 use Rattle.call_contexts.proofs.contexts.make.Goals as goal

@@ -1,10 +1,4 @@
-use Rattle.std.proofs.Common.{◌≡◌, ◌∙◌, ◌∷◌, None, Some, ap, refl, subst, sym, List}
-use Rattle.std.specs.Prelude.{IfSome}
-use Rattle.std.specs.List.{list_any}
-use Rattle.context_tree.specs.Context.{HandsOut, TreeOp}
-use Rattle.context_tree.specs.Tree.{StandsFor}
-use Rattle.call_contexts.specs.Standing.{Standing, has_ended, is_over}
-use Rattle.call_contexts.specs.Sound.{owner_of}
+use Rattle.call_contexts.proofs.Names.{◌≡◌, ◌∙◌, ◌∷◌, None, Some, ap, refl, subst, sym, List, IfSome, list_any, HandsOut, TreeOp, StandsFor, Standing, has_ended, is_over, owner_of}
 use Rattle.call_contexts.proofs.Ended.{found_over, handed_out, none_waits, seen_passed, sound_passed}
 use Rattle.call_contexts.proofs.ends.first_ended.Goals as goal
 

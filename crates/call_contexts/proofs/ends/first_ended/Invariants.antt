@@ -1,8 +1,4 @@
-use Rattle.std.proofs.Common.{◌≡◌, List}
-use Rattle.context_tree.specs.Context.{Id}
-use Rattle.context_tree.specs.Tree.{left_to_hand_out}
-use Rattle.call_contexts.specs.Sound.{IsSound}
-use Rattle.call_contexts.specs.Standing.{seen}
+use Rattle.call_contexts.proofs.Names.{◌≡◌, List, Id, left_to_hand_out, IsSound, seen}
 use Rattle.call_contexts.proofs.ends.first_ended.Given as goal
 
 abbrev pub invariant-loop-ctx : goal.invariant-loop-ctx

@@ -1,5 +1,4 @@
-use Rattle.std.proofs.Common.{◌≡◌, drop}
-use Rattle.call_contexts.specs.Sound.{owner_of}
+use Rattle.call_contexts.proofs.Names.{◌≡◌, drop, owner_of}
 use Rattle.call_contexts.proofs.ends.owner.Given as goal
 
 -- those that were passed do not have it

@@ -1,8 +1,4 @@
-use Rattle.std.proofs.Common.{◌≡◌, arith, ap, sym, ◌∙◌, length, min, subst, Some}
-use Rattle.std.specs.Arc.{arc_value}
-use Rattle.call_plan.specs.Plan.{PlanRecord}
-use Rattle.gateway_connection.specs.KeptCall.{IsKept, HasGone, live_value}
-use Rattle.gateway_model.specs.Past.{ArrivedCall}
+use Rattle.gateway_connection.specs.lemmas.Names.{◌≡◌, arith, ap, sym, ◌∙◌, length, min, subst, Some, arc_value, PlanRecord, IsKept, HasGone, live_value, ArrivedCall}
 use Rattle.gateway_connection.proofs.GroupLemmas.{begun_few, begun_kept, is_begun}
 use Rattle.gateway_connection.proofs.begin.begin.Goals as goal
 

@@ -1,8 +1,4 @@
-use Rattle.std.proofs.Common.{◌≡◌, ℕ, ◌+◌, ◌≤◌, ◌<◌, ◌++◌, [], ◌∷◌, Option, List, map, length, sym, ap, ◌∙◌, arith, slice_index_or}
-use Rattle.std.specs.Prelude.{take}
-use Rattle.std.proofs.lemmas.List.{take_more, take_all, map_push}
-use Rattle.gateway_model.specs.Past.{deadline_from}
-use Rattle.gateway_theory.specs.Values.{TaskValue}
+use Rattle.gateway_connection.specs.lemmas.Names.{◌≡◌, ℕ, ◌+◌, ◌≤◌, ◌<◌, ◌++◌, [], ◌∷◌, Option, List, map, length, sym, ap, ◌∙◌, arith, slice_index_or, take, take_more, take_all, map_push, deadline_from, TaskValue}
 use Rattle.gateway_connection.proofs.begin.first_deadlines.Goals as goal
 
 abbrev time_at : ℕ → TaskValue → Option ℕ

@@ -1,8 +1,5 @@
-use Rattle.std.proofs.Common.{◌≡◌, ◌≤◌, map, length}
-use Rattle.std.specs.Prelude.{take}
+use Rattle.gateway_connection.specs.lemmas.Names.{◌≡◌, ◌≤◌, map, length, take, deadline_from, TaskValue}
 use Rattle.std.specs.Vec.{vec_capacity}
-use Rattle.gateway_model.specs.Past.{deadline_from}
-use Rattle.gateway_theory.specs.Values.{TaskValue}
 use Rattle.gateway_connection.proofs.begin.first_deadlines.Given as goal
 
 abbrev pub invariant-loop-index : goal.invariant-loop-index

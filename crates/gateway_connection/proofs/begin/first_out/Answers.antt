@@ -1,6 +1,4 @@
-use Rattle.std.proofs.Common.{◌++◌, [], ◌∷◌, sym, ap, ◌∙◌, arith}
-use Rattle.std.specs.Prelude.{nat_lt}
-use Rattle.std.proofs.lemmas.List.FromFn.{map-range_with_len_more}
+use Rattle.gateway_connection.specs.lemmas.Names.{◌++◌, [], ◌∷◌, sym, ap, ◌∙◌, arith, nat_lt, map-range_with_len_more}
 use Rattle.gateway_connection.proofs.begin.first_out.Goals as goal
 
 pub loop-index-preserved : goal.loop-index-preserved

@@ -1,6 +1,4 @@
-use Rattle.std.proofs.Common.{◌≡◌, map}
-use Rattle.std.specs.Prelude.{nat_lt}
-use Rattle.std.specs.List.{range_with_len}
+use Rattle.gateway_connection.specs.lemmas.Names.{◌≡◌, map, nat_lt, range_with_len}
 use Rattle.gateway_connection.proofs.begin.first_out.Given as goal
 
 abbrev pub invariant-loop-index : goal.invariant-loop-index

@@ -1,6 +1,4 @@
-use Rattle.std.proofs.Common.{ap, refl}
-use Rattle.std.specs.Arc.{arc_value}
-use Rattle.gateway_theory.specs.Task.{task_of}
+use Rattle.gateway_connection.specs.lemmas.Names.{ap, refl, arc_value, task_of}
 use Rattle.gateway_connection.proofs.GroupLemmas.{gone_more, ok_is}
 use Rattle.gateway_connection.proofs.begin.give.Goals as goal
 

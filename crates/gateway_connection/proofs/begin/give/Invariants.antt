@@ -1,5 +1,4 @@
-use Rattle.std.specs.Arc.{arc_value}
-use Rattle.gateway_connection.specs.KeptCall.{HasGone}
+use Rattle.gateway_connection.specs.lemmas.Names.{arc_value, HasGone}
 use Rattle.gateway_connection.proofs.begin.give.Given as goal
 
 abbrev pub invariant-loop-index : goal.invariant-loop-index

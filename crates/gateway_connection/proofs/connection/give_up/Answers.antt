@@ -1,7 +1,4 @@
-use Rattle.std.proofs.Common.{◌≡◌, ◌<◌, ◌≤◌, ◌∙◌, ap, arith, length, refl, List}
-use Rattle.gateway_theory.specs.Values.{KeptValue}
-use Rattle.gateway_theory.specs.Store.{given_up, kept_at, waiting_in}
-use Rattle.gateway_connection.specs.Jobs.{JobsValue}
+use Rattle.gateway_connection.specs.lemmas.Names.{◌≡◌, ◌<◌, ◌≤◌, ◌∙◌, ap, arith, length, refl, List, KeptValue, given_up, kept_at, waiting_in, JobsValue}
 use Rattle.gateway_connection.proofs.DoneLemmas.{done_all, done_at, done_next, done_size, part_waits, set_waits}
 use Rattle.gateway_connection.proofs.HoldsLemmas.{here_is}
 use Rattle.gateway_connection.proofs.connection.give_up.Goals as goal

@@ -1,5 +1,4 @@
-use Rattle.std.proofs.Common.{◌≡◌, ◌+◌}
-use Rattle.gateway_theory.specs.Store.{given_up, waiting}
+use Rattle.gateway_connection.specs.lemmas.Names.{◌≡◌, ◌+◌, given_up, waiting}
 use Rattle.gateway_connection.proofs.DoneLemmas.{done_to}
 use Rattle.gateway_connection.proofs.connection.give_up.Given as goal
 

@@ -1,10 +1,4 @@
-use Rattle.std.proofs.Common.{◌≡◌, ℕ, suc, ◌+◌, min, length, refl, sym, ap, ◌∙◌, arith, subst}
-use Rattle.std.specs.Arc.{arc_value}
-use Rattle.call_plan.specs.Plan.{PlanRecord}
-use Rattle.gateway_connection.specs.Linked.{branch_started, first_started}
-use Rattle.gateway_model.specs.Past.{ArrivedCall, deadline_from}
-use Rattle.gateway_replies.specs.Contexts.{ContextsValue, KeepsOthers, is_life}
-use Rattle.gateway_theory.specs.Begins.{first_ones}
+use Rattle.gateway_connection.specs.lemmas.Names.{◌≡◌, ℕ, suc, ◌+◌, min, length, refl, sym, ap, ◌∙◌, arith, subst, arc_value, PlanRecord, branch_started, first_started, ArrivedCall, deadline_from, ContextsValue, KeepsOthers, is_life, first_ones}
 use Rattle.gateway_connection.proofs.TimedLemmas.{first_known, first_others}
 use Rattle.gateway_connection.proofs.times.start_first.Goals as goal
 

@@ -1,5 +1,4 @@
-use Rattle.std.proofs.Common.{◌≡◌}
-use Rattle.gateway_connection.specs.Linked.{first_started}
+use Rattle.gateway_connection.specs.lemmas.Names.{◌≡◌, first_started}
 use Rattle.gateway_connection.proofs.times.start_first.Given as goal
 
 abbrev pub invariant-loop-branch : goal.invariant-loop-branch

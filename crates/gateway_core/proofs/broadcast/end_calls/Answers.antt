@@ -1,6 +1,4 @@
-use Rattle.std.proofs.Common.{refl, sym, subst, true, false}
-use Rattle.gateway_connection.specs.Linked.{none_over}
-use Rattle.gateway_core.specs.Whole.{AreFit}
+use Rattle.gateway_core.proofs.Names.{refl, sym, subst, true, false, none_over, AreFit}
 use Rattle.gateway_core.proofs.BroadcastLemmas.{all_end, all_fit, ends_next, may_next, none_absent, same_shared, told_first}
 use Rattle.gateway_core.proofs.broadcast.end_calls.Goals as goal
 

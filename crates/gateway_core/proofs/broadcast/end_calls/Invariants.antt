@@ -1,6 +1,4 @@
-use Rattle.std.proofs.Common.{length}
-use Rattle.std.specs.Prelude.{filter}
-use Rattle.gateway_replies.specs.Contexts.{is_over}
+use Rattle.gateway_core.proofs.Names.{length, filter, is_over}
 use Rattle.gateway_core.proofs.BroadcastLemmas.{AreHalfway}
 use Rattle.gateway_core.proofs.broadcast.end_calls.Given as goal
 

@@ -1,4 +1,4 @@
-use Rattle.std.proofs.Common.{refl}
+use Rattle.gateway_replies.proofs.Names.{refl}
 use Rattle.gateway_model.specs.Arrival.{refusal_reply}
 use Rattle.gateway_replies.proofs.answers.too_large.Goals as goal
 

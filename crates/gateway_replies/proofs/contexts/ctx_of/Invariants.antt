@@ -1,6 +1,4 @@
-use Rattle.std.proofs.Common.{◌≡◌, drop}
-use Rattle.gateway_replies.specs.Contexts.{ctx_of}
-use Rattle.gateway_replies.specs.Ties.{peer_ties}
+use Rattle.gateway_replies.proofs.Names.{◌≡◌, drop, ctx_of, peer_ties}
 use Rattle.gateway_replies.proofs.contexts.ctx_of.Given as goal
 
 -- those that were passed are none of it

@@ -1,4 +1,4 @@
-use Rattle.std.proofs.Common.{rules}
+use Rattle.gateway_replies.proofs.Names.{rules}
 use Rattle.std.proofs.lemmas.Fn.{filter_same}
 use Rattle.gateway_replies.proofs.contexts.remove_peer.Goals as goal
 

@@ -1,9 +1,4 @@
-use Rattle.std.proofs.Common.{◌≡◌, ◌∙◌, ◌+◌, ◌<◌, true, false, suc, arith, ap, List, length, refl, subst, sym, ⊎_elim}
-use Rattle.std.specs.Prelude.{◌==◌, slice_set}
-use Rattle.std.proofs.lemmas.Bool.{cases_Bool, eq-eqb, eqb-true}
-use Rattle.gateway_replies.specs.declared.contexts.peer.Peer.{Peer}
-use Rattle.gateway_replies.specs.Hooks.{stock_of}
-use Rattle.gateway_replies.specs.Ties.{Takes, peer_ties, stock_ties}
+use Rattle.gateway_replies.proofs.Names.{◌≡◌, ◌∙◌, ◌+◌, ◌<◌, true, false, suc, arith, ap, List, length, refl, subst, sym, ⊎_elim, ◌==◌, slice_set, cases_Bool, eq-eqb, eqb-true, Peer, stock_of, Takes, peer_ties, stock_ties}
 use Rattle.gateway_replies.proofs.ContextLemmas.{ties_set}
 use Rattle.gateway_replies.proofs.HookLemmas.{AreOthers, no_stock, one_more_other, same_at, taken_at}
 use Rattle.gateway_replies.proofs.contexts.take_hook.Goals as goal

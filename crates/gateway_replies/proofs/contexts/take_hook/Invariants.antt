@@ -1,4 +1,4 @@
-use Rattle.std.proofs.Common.{◌≡◌}
+use Rattle.gateway_replies.proofs.Names.{◌≡◌}
 use Rattle.gateway_replies.proofs.HookLemmas.{AreOthers}
 use Rattle.gateway_replies.proofs.contexts.take_hook.Given as goal
 

@@ -1,7 +1,4 @@
-use Rattle.std.proofs.Common.{◌≡◌, ◌∙◌, Some, None, append-nil, inl, inr, subst, sym}
-use Rattle.gateway_replies.specs.Contexts.{KeepsOthers}
-use Rattle.gateway_replies.specs.Hooks.{CallsAtMost, LosesHook, called_on, ending_for}
-use Rattle.gateway_theory.specs.lemmas.Cases.{err_if}
+use Rattle.gateway_replies.proofs.Names.{◌≡◌, ◌∙◌, Some, None, append-nil, inl, inr, subst, sym, KeepsOthers, CallsAtMost, LosesHook, called_on, ending_for, err_if}
 use Rattle.gateway_replies.proofs.ContextLemmas.{without_others}
 use Rattle.gateway_replies.proofs.HookLemmas.{gives_none, gives_told, ok_if}
 use Rattle.gateway_replies.proofs.decided.bytes_of.Goals as goal

@@ -1,4 +1,4 @@
-use Rattle.std.proofs.Common.{◌∙◌}
+use Rattle.gateway_replies.proofs.Names.{◌∙◌}
 use Rattle.gateway_theory.specs.lemmas.AnsweringLemmas.{ending_in, if_ok}
 use Rattle.gateway_replies.proofs.decided.last_ending.Goals as goal
 

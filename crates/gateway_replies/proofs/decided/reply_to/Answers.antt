@@ -1,5 +1,4 @@
-use Rattle.std.proofs.Common.{subst}
-use Rattle.gateway_replies.specs.Hooks.{GivesBytes, ending_for}
+use Rattle.gateway_replies.proofs.Names.{subst, GivesBytes, ending_for}
 use Rattle.gateway_replies.proofs.decided.reply_to.Goals as goal
 
 pub returns-clause-called : goal.returns-clause-called

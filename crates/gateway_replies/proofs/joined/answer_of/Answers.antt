@@ -1,8 +1,6 @@
-use Rattle.std.proofs.Common.{List, ℕ, Option, ap, ◌∙◌}
-use Rattle.std.specs.Option.{unwrap_or}
-use Rattle.gateway_theory.specs.lemmas.ReplyLemmas.{later_step}
-use Rattle.gateway_replies.proofs.joined.answer_of.Goals as goal
+use Rattle.gateway_replies.proofs.Names.{List, ℕ, Option, ap, ◌∙◌, unwrap_or, later_step}
 use Rattle.gateway_replies.proofs.joined.answer_of.Goals.{in-Some+in_ok-answer, in_default}
+use Rattle.gateway_replies.proofs.joined.answer_of.Goals as goal
 
 pub loop-event-preserved : goal.loop-event-preserved
 loop-event-preserved c =

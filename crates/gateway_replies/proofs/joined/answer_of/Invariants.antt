@@ -1,4 +1,4 @@
-use Rattle.std.proofs.Common.{◌≡◌, [], take}
+use Rattle.gateway_replies.proofs.Names.{◌≡◌, [], take}
 use Rattle.std.specs.Prelude.{unwrap_or}
 use Rattle.gateway_model.specs.CallRecord.{answer_of_branch}
 use Rattle.gateway_replies.proofs.joined.answer_of.Given as goal

@@ -1,4 +1,4 @@
-use Rattle.gateway_theory.specs.lemmas.ReplyLemmas.{more_answers}
+use Rattle.gateway_replies.proofs.Names.{more_answers}
 use Rattle.gateway_replies.proofs.joined.answers_in.Goals as goal
 
 pub loop-branch-preserved : goal.loop-branch-preserved

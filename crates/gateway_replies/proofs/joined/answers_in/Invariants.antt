@@ -1,4 +1,4 @@
-use Rattle.std.proofs.Common.{◌≡◌}
+use Rattle.gateway_replies.proofs.Names.{◌≡◌}
 use Rattle.gateway_model.specs.CallRecord.{answers_in}
 use Rattle.gateway_replies.proofs.joined.answers_in.Given as goal
 

@@ -1,5 +1,4 @@
-use Rattle.std.proofs.Common.{length, ap, ◌∙◌}
-use Rattle.gateway_theory.specs.lemmas.ReplyLemmas.{length_answers}
+use Rattle.gateway_replies.proofs.Names.{length, ap, ◌∙◌, length_answers}
 use Rattle.gateway_replies.proofs.joined.joined.Goals as goal
 
 pub join-requires : goal.join-requires

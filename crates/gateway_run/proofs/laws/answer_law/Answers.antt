@@ -1,4 +1,4 @@
-use Rattle.gateway_model.specs.Starts.{occurrences}
+use Rattle.gateway_run.proofs.Names.{occurrences}
 use Rattle.gateway_run.proofs.CallAnswers.{has_answered, is_answered}
 use Rattle.gateway_run.proofs.laws.answer_law.Goals as goal
 

@@ -1,7 +1,4 @@
-use Rattle.std.proofs.Common.{ap, sym, ◌∙◌}
-use Rattle.gateway_model.specs.Past.{marked}
-use Rattle.gateway_model.specs.Queue.{queued}
-use Rattle.gateway_model.specs.Starts.{jobs}
+use Rattle.gateway_run.proofs.Names.{ap, sym, ◌∙◌, marked, queued, jobs}
 use Rattle.gateway_run.proofs.Shifts.{is_shifted}
 use Rattle.gateway_run.proofs.laws.any_cut_law.Goals as goal
 

@@ -1,6 +1,4 @@
-use Rattle.std.proofs.Common.{ap}
-use Rattle.std.specs.Prelude.{option_and_then}
-use Rattle.gateway_model.specs.Queue.{entry_by}
+use Rattle.gateway_run.proofs.Names.{ap, option_and_then, entry_by}
 use Rattle.gateway_run.proofs.laws.at_once_law.Goals as goal
 
 pub returns-clause-refused : goal.returns-clause-refused

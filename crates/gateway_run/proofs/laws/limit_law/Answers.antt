@@ -1,4 +1,4 @@
-use Rattle.gateway_model.specs.Starts.{occurrences}
+use Rattle.gateway_run.proofs.Names.{occurrences}
 use Rattle.gateway_run.proofs.laws.limit_law.Goals as goal
 
 pub returns : goal.returns

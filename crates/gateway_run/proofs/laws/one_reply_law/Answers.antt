@@ -1,6 +1,4 @@
-use Rattle.std.proofs.Common.{refl}
-use Rattle.gateway_model.specs.Past.{marked}
-use Rattle.gateway_model.specs.Starts.{occurrences}
+use Rattle.gateway_run.proofs.Names.{refl, marked, occurrences}
 use Rattle.gateway_run.proofs.OneReply.{queued_at, queued_until}
 use Rattle.gateway_run.proofs.laws.one_reply_law.Goals as goal
 

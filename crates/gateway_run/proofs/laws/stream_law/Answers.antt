@@ -1,4 +1,4 @@
-use Rattle.gateway_model.specs.Starts.{occurrences}
+use Rattle.gateway_run.proofs.Names.{occurrences}
 use Rattle.gateway_run.proofs.FromStreams.{came_are, came_at}
 use Rattle.gateway_run.proofs.laws.stream_law.Goals as goal
 

@@ -1,9 +1,4 @@
-use Rattle.std.proofs.Common.{◌≡◌, ◌++◌, ◌∷◌, [], List, Some, None, sym, ap, ◌∙◌, subst, append-nil, append_assoc}
-use Rattle.gateway_model.specs.declared.entry.ReplyEntry.{ReplyEntry}
-use Rattle.gateway_theory.specs.Gateway.{untaken_of}
-use Rattle.gateway_model.specs.Queue.{answer_of}
-use Rattle.gateway_run.specs.Log.{TookReplies}
-use Rattle.gateway_model.specs.Run.{bytes_of}
+use Rattle.gateway_run.proofs.Names.{◌≡◌, ◌++◌, ◌∷◌, [], List, Some, None, sym, ap, ◌∙◌, subst, append-nil, append_assoc, ReplyEntry, untaken_of, answer_of, TookReplies, bytes_of}
 use Rattle.gateway_run.proofs.Gathering.{bytes_more, took_more, took_none}
 use Rattle.gateway_run.proofs.log.take_replies.Goals as goal
 

@@ -1,8 +1,4 @@
-use Rattle.std.proofs.Common.{◌≡◌, ◌++◌, List, length}
-use Rattle.gateway_model.specs.declared.entry.ReplyEntry.{ReplyEntry}
-use Rattle.gateway_theory.specs.Gateway.{untaken_of}
-use Rattle.gateway_run.specs.Log.{TookReplies}
-use Rattle.gateway_model.specs.Run.{bytes_of}
+use Rattle.gateway_run.proofs.Names.{◌≡◌, ◌++◌, List, length, ReplyEntry, untaken_of, TookReplies, bytes_of}
 use Rattle.gateway_run.proofs.log.take_replies.Given as goal
 
 abbrev pub invariant-loop-reply : goal.invariant-loop-reply

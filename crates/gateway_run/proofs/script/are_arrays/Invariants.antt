@@ -1,6 +1,4 @@
-use Rattle.std.proofs.Common.{◌≡◌, drop}
-use Rattle.serde_json.specs.View.{items_view}
-use Rattle.gateway_run.specs.Script.{are_arrays}
+use Rattle.gateway_run.proofs.Names.{◌≡◌, drop, items_view, are_arrays}
 use Rattle.gateway_run.proofs.script.are_arrays.Given as goal
 
 abbrev pub invariant-loop-entry : goal.invariant-loop-entry

@@ -1,5 +1,5 @@
-use Rattle.serde_json.proofs.Views.{items_len-items_view}
 use Rattle.gateway_run.specs.Script.{has_length}
+use Rattle.serde_json.proofs.Views.{items_len-items_view}
 use Rattle.gateway_run.proofs.script.has_length.Goals as goal
 
 pub returns-in-Some : goal.returns-in-Some

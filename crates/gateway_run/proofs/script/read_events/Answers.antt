@@ -1,4 +1,4 @@
-use Rattle.std.proofs.Common.{sym, ◌∙◌}
+use Rattle.gateway_run.proofs.Names.{sym, ◌∙◌}
 use Rattle.gateway_run.proofs.Entries.{with_rest-more}
 use Rattle.gateway_run.proofs.script.read_events.Goals as goal
 

@@ -1,6 +1,4 @@
-use Rattle.std.proofs.Common.{◌≡◌}
-use Rattle.serde_json.specs.View.{items_view}
-use Rattle.gateway_run.specs.Script.{events_from}
+use Rattle.gateway_run.proofs.Names.{◌≡◌, items_view, events_from}
 use Rattle.gateway_run.proofs.Entries.{with_rest}
 use Rattle.gateway_run.proofs.script.read_events.Given as goal
 

@@ -1,5 +1,5 @@
+use Rattle.gateway_run.proofs.Names.{view, items_view}
 use Rattle.std.proofs.lemmas.Result.{err_from_is_err_and}
-use Rattle.serde_json.specs.View.{view, items_view}
 use Rattle.gateway_run.proofs.Scripts.{no_plans, no_entries, refused_plans, bad_event, good_script}
 use Rattle.gateway_run.proofs.script.script_of.Goals as goal
 

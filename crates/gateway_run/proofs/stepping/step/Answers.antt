@@ -1,14 +1,5 @@
-use Rattle.std.specs.Prelude.{◌==◌}
-use Rattle.std.proofs.Common.{◌∙◌, true, false, refl, [], ◌∷◌, length, ◌<◌, sym, subst}
-use Rattle.gateway_model.specs.Events.{is_closing_of, most_open, open_connections}
-use Rattle.gateway_model.specs.declared.event.Event.TheVariants.{BranchResult, Closing, Drain, HangUp, Moment, Opening, Piece}
-use Rattle.gateway_theory.specs.Served.{Adds, Served}
+use Rattle.gateway_run.proofs.Names.{◌==◌, ◌∙◌, true, false, refl, [], ◌∷◌, length, ◌<◌, sym, subst, is_closing_of, most_open, open_connections, BranchResult, Closing, Drain, HangUp, Moment, Opening, Piece, Adds, Served, KeepsBut, TellsStep, call_id, History, after_event, AddsStep, Tells, TellsBreaks, TellsConn, TellsOpening, after_step, seen_in, Done, Saw}
 use Rattle.gateway_theory.specs.Told.{BeginsWithin, TellsTook}
-use Rattle.gateway_theory.specs.Serving.{KeepsBut, TellsStep}
-use Rattle.gateway_model.specs.Past.{call_id}
-use Rattle.gateway_model.specs.History.{History, after_event}
-use Rattle.gateway_run.specs.Stepping.{AddsStep, Tells, TellsBreaks, TellsConn, TellsOpening, after_step, seen_in}
-use Rattle.gateway_run.specs.declared.stepping.Stepped.TheVariants.{Done, Saw}
 use Rattle.gateway_run.proofs.Starting.{begins_told, breaks_told, by_done, by_opening, by_taken, conn_told, few_told, keeps_closing, keeps_for, none_done, none_opening, none_taken, opening_told}
 use Rattle.gateway_run.proofs.stepping.step.Goals as goal
 

@@ -1,4 +1,4 @@
-use Rattle.std.proofs.Common.{rules}
+use Rattle.gateway_run.proofs.Names.{rules}
 use Rattle.gateway_run.proofs.RunLemmas.{Appends-more}
 use Rattle.gateway_run.proofs.text.send.Goals as goal
 

@@ -1,5 +1,4 @@
-use Rattle.std.proofs.Common.{length, take, ◌-◌, ◌≤◌}
-use Rattle.std.specs.Io.KnownBytes.{Appends}
+use Rattle.gateway_run.proofs.Names.{length, take, ◌-◌, ◌≤◌, Appends}
 use Rattle.gateway_run.proofs.text.send.Given as goal
 
 -- the first bytes are written

@@ -1,7 +1,6 @@
-use Rattle.std.proofs.Common.{[]}
+use Rattle.gateway_run.proofs.Names.{[], err_if as OnErr-from}
 use Rattle.gateway_run.proofs.RunLemmas.{AppendsSome-at, Appends-at}
 use Rattle.gateway_run.proofs.text.send_all.Goals as goal
-use Rattle.gateway_theory.specs.lemmas.Cases.{err_if as OnErr-from}
 
 pub loop-part-preserved : goal.loop-part-preserved
 loop-part-preserved g c =

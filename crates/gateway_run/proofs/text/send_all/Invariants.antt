@@ -1,5 +1,4 @@
-use Rattle.std.proofs.Common.{flat_map, take}
-use Rattle.std.specs.Io.KnownBytes.{Appends}
+use Rattle.gateway_run.proofs.Names.{flat_map, take, Appends}
 use Rattle.gateway_run.proofs.text.send_all.Given as goal
 
 -- the parts so far are written

@@ -1,7 +1,6 @@
-use Rattle.gateway_run.specs.RunText.{broken_line}
+use Rattle.gateway_run.proofs.Names.{broken_line, err_if as OnErr-from}
 use Rattle.gateway_run.proofs.RunLemmas.{AppendsSome-at, Appends-at}
 use Rattle.gateway_run.proofs.text.write_broken.Goals as goal
-use Rattle.gateway_theory.specs.lemmas.Cases.{err_if as OnErr-from}
 
 pub loop-conn-preserved : goal.loop-conn-preserved
 loop-conn-preserved g c =

@@ -1,7 +1,4 @@
-use Rattle.std.proofs.Common.{rules, subst}
-use Rattle.gateway_run.specs.RunText.{AppendsSome}
-use Rattle.std.specs.Prelude.{OnErr, OnOk}
-use Rattle.std.specs.Io.KnownBytes.{Appends}
+use Rattle.gateway_run.proofs.Names.{rules, subst, AppendsSome, OnErr, OnOk, Appends}
 use Rattle.gateway_run.proofs.RunLemmas.{connection_parts}
 use Rattle.gateway_run.proofs.text.write_connection.Goals as goal
 

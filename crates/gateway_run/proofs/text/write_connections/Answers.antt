@@ -1,7 +1,6 @@
-use Rattle.std.proofs.Common.{◌∙◌}
+use Rattle.gateway_run.proofs.Names.{◌∙◌, err_if as OnErr-from}
 use Rattle.gateway_run.proofs.RunLemmas.{AppendsSome-connection, Appends-connection, all_connections}
 use Rattle.gateway_run.proofs.text.write_connections.Goals as goal
-use Rattle.gateway_theory.specs.lemmas.Cases.{err_if as OnErr-from}
 
 pub returns-in_err-write_connection-clause-err : goal.returns-in_err-write_connection-clause-err
 returns-in_err-write_connection-clause-err g c =

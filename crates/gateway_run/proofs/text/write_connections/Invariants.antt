@@ -1,7 +1,4 @@
-use Rattle.std.proofs.Common.{take, flat_map}
-use Rattle.std.specs.List.{enumerate_from}
-use Rattle.std.specs.Io.KnownBytes.{Appends}
-use Rattle.gateway_run.specs.RunText.{connection_text}
+use Rattle.gateway_run.proofs.Names.{take, flat_map, enumerate_from, Appends, connection_text}
 use Rattle.gateway_run.proofs.text.write_connections.Given as goal
 
 -- the texts of the connections so far are written

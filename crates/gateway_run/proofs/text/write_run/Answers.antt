@@ -1,7 +1,7 @@
+use Rattle.gateway_run.proofs.Names.{err_if as OnErr-from}
 use Rattle.std.proofs.KnownBytes.{Appends-trans}
 use Rattle.gateway_run.proofs.RunLemmas.{OnErr-map, AppendsSome-front, AppendsSome-later}
 use Rattle.gateway_run.proofs.text.write_run.Goals as goal
-use Rattle.gateway_theory.specs.lemmas.Cases.{err_if as OnErr-from}
 
 pub returns-in_err-write_connections-clause-err : goal.returns-in_err-write_connections-clause-err
 returns-in_err-write_connections-clause-err g c =

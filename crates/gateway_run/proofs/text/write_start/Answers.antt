@@ -1,6 +1,4 @@
-use Rattle.std.proofs.Common.{rules, subst}
-use Rattle.gateway_run.specs.RunText.{AppendsSome}
-use Rattle.std.specs.Prelude.{OnErr}
+use Rattle.gateway_run.proofs.Names.{rules, subst, AppendsSome, OnErr}
 use Rattle.gateway_run.proofs.RunLemmas.{start_parts}
 use Rattle.gateway_run.proofs.text.write_start.Goals as goal
 

@@ -1,7 +1,6 @@
-use Rattle.gateway_run.specs.RunText.{start_line}
+use Rattle.gateway_run.proofs.Names.{start_line, err_if as OnErr-from}
 use Rattle.gateway_run.proofs.RunLemmas.{AppendsSome-at, Appends-at}
 use Rattle.gateway_run.proofs.text.write_starts.Goals as goal
-use Rattle.gateway_theory.specs.lemmas.Cases.{err_if as OnErr-from}
 
 pub loop-start-preserved : goal.loop-start-preserved
 loop-start-preserved g c =

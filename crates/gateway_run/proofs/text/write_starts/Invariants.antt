@@ -1,6 +1,4 @@
-use Rattle.std.proofs.Common.{take}
-use Rattle.std.specs.Io.KnownBytes.{Appends}
-use Rattle.gateway_run.specs.RunText.{starts_text}
+use Rattle.gateway_run.proofs.Names.{take, Appends, starts_text}
 use Rattle.gateway_run.proofs.text.write_starts.Given as goal
 
 -- the lines so far are written

@@ -1,5 +1,4 @@
-use Rattle.std.proofs.Common.{◌∙◌, ◌+◌}
-use Rattle.std.specs.Prelude.{◌||◌, ◌==◌, nat_lt}
+use Rattle.gateway_run.proofs.Names.{◌∙◌, ◌+◌, ◌||◌, ◌==◌, nat_lt}
 use Rattle.gateway_run.proofs.EventRuns.{same_gathered}
 use Rattle.gateway_run.proofs.Finally.{below_next, collects_opened, collects_plans}
 use Rattle.gateway_run.proofs.Gathering.{collected_run}

@@ -1,7 +1,4 @@
-use Rattle.std.proofs.Common.{◌≡◌, false}
-use Rattle.std.specs.Prelude.{nat_lt}
-use Rattle.gateway_model.specs.Events.{Before}
-use Rattle.gateway_run.specs.Log.{HasRun}
+use Rattle.gateway_run.proofs.Names.{◌≡◌, false, nat_lt, Before, HasRun}
 use Rattle.gateway_run.proofs.whole.collect_all.Given as goal
 
 abbrev pub invariant-loop-number : goal.invariant-loop-number

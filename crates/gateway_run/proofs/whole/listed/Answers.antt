@@ -1,9 +1,8 @@
-use Rattle.std.proofs.Common.{◌≡◌, ◌++◌, ◌∷◌, ◌<◌, [], false, length, ap, ◌∙◌, arith}
-use Rattle.std.specs.Prelude.{if◌then◌else◌, slice_index_or}
+use Rattle.gateway_run.proofs.Names.{◌≡◌, ◌++◌, ◌∷◌, ◌<◌, [], false, length, ap, ◌∙◌, arith, if◌then◌else◌, slice_index_or}
 use Rattle.gateway_run.proofs.Finally.{at_default}
 use Rattle.gateway_run.proofs.WholeLemmas.{broken_next, kept_if, pushed_if}
-use Rattle.gateway_run.proofs.whole.listed.Goals as goal
 use Rattle.gateway_run.proofs.whole.listed.Goals.{then-index+in_ok-push, else-index}
+use Rattle.gateway_run.proofs.whole.listed.Goals as goal
 
 told : (c : goal.Joined-index) → c.if-index.broken.items
     ≡ (if slice_index_or c.args.broke.now.items c.loop-number.number false then c.loop-number.broken.items ++ c.loop-number.number ∷ [] else c.loop-number.broken.items)

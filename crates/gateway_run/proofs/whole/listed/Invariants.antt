@@ -1,6 +1,4 @@
-use Rattle.std.proofs.Common.{◌≡◌, false}
-use Rattle.std.specs.Prelude.{filter, slice_index_or}
-use Rattle.std.specs.List.{range_with_len}
+use Rattle.gateway_run.proofs.Names.{◌≡◌, false, filter, slice_index_or, range_with_len}
 use Rattle.gateway_run.proofs.whole.listed.Given as goal
 
 abbrev pub invariant-loop-number : goal.invariant-loop-number

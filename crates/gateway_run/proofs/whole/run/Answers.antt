@@ -1,6 +1,4 @@
-use Rattle.std.proofs.Common.{ap, arith, length}
-use Rattle.std.specs.List.{count_by}
-use Rattle.gateway_model.specs.Events.{is_opening}
+use Rattle.gateway_run.proofs.Names.{ap, arith, length, count_by, is_opening}
 use Rattle.gateway_run.proofs.WholeLemmas.{no_stocks, ok_stocked}
 use Rattle.gateway_run.proofs.whole.run.Goals as goal
 

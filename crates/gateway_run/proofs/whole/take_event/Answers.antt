@@ -1,7 +1,4 @@
-use Rattle.std.proofs.Common.{◌∙◌, sym, ap, subst}
-use Rattle.gateway_theory.specs.Values.{GatewayValue}
-use Rattle.gateway_run.specs.Log.{StartsAll}
-use Rattle.gateway_run.specs.Stepping.{log_after}
+use Rattle.gateway_run.proofs.Names.{◌∙◌, sym, ap, subst, GatewayValue, StartsAll, log_after}
 use Rattle.gateway_run.proofs.EventRuns.{event_run}
 use Rattle.gateway_run.proofs.Finally.{collects_for_plans, on_then}
 use Rattle.gateway_run.proofs.whole.take_event.Goals as goal

@@ -1,7 +1,5 @@
-use Rattle.std.proofs.Common.{length, arith, ap, sym, ◌∙◌, ◌++◌, ◌∷◌, [], append_assoc}
-use Rattle.std.proofs.lemmas.Grind.{common_steps}
+use Rattle.gateway_run.proofs.Names.{length, arith, ap, sym, ◌∙◌, ◌++◌, ◌∷◌, [], append_assoc, common_steps, newest_first}
 use Rattle.std.specs.Vec.Iter.{into_iter_items}
-use Rattle.gateway_model.specs.Run.{newest_first}
 use Rattle.gateway_run.proofs.WholeLemmas.{newest_more, newest_size, stock_left}
 use Rattle.gateway_run.proofs.whole.take_events.Goals as goal
 

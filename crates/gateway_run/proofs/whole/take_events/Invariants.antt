@@ -1,9 +1,5 @@
-use Rattle.std.proofs.Common.{◌≡◌, ◌++◌, [], false, length}
-use Rattle.std.specs.List.{count_by}
+use Rattle.gateway_run.proofs.Names.{◌≡◌, ◌++◌, [], false, length, count_by, HasRun, newest_first, is_opening}
 use Rattle.std.specs.Vec.Iter.{into_iter_items}
-use Rattle.gateway_run.specs.Log.{HasRun}
-use Rattle.gateway_model.specs.Run.{newest_first}
-use Rattle.gateway_model.specs.Events.{is_opening}
 use Rattle.gateway_run.proofs.whole.take_events.Given as goal
 
 abbrev pub invariant-loop-event : goal.invariant-loop-event

@@ -1,8 +1,4 @@
-use Rattle.std.proofs.Common.{◌≡◌, ◌∙◌, length, map, sym, ap, subst}
-use Rattle.std.specs.Prelude.{nat_lt}
-use Rattle.gateway_theory.specs.Task.{HandedJob}
-use Rattle.gateway_run.specs.Log.{HasRun, LogValue, log_value}
-use Rattle.gateway_model.specs.Run.{newest_first}
+use Rattle.gateway_run.proofs.Names.{◌≡◌, ◌∙◌, length, map, sym, ap, subst, nat_lt, HandedJob, HasRun, LogValue, log_value, newest_first}
 use Rattle.gateway_run.proofs.Finally.{run_first, run_is}
 use Rattle.gateway_run.proofs.whole.whole_run.Goals as goal
 

@@ -1,4 +1,4 @@
-use Rattle.std.proofs.Common.{refl}
+use Rattle.gateway_theory.specs.lemmas.Names.{refl}
 use Rattle.gateway_theory.specs.lemmas.CallsAdd.{opens_adds, unopens_adds}
 use Rattle.gateway_theory.proofs.served_laws.opening_law.Goals as goal
 

@@ -1,5 +1,4 @@
-use Rattle.std.proofs.Common.{Err, Ok}
-use Rattle.gateway_theory.specs.Gateway.{core_of}
+use Rattle.gateway_theory.specs.lemmas.Names.{Err, Ok, core_of}
 use Rattle.gateway_theory.specs.lemmas.PiecesAdd.{begun_up, feeds_stand}
 use Rattle.gateway_theory.proofs.served_laws.parts_law.Goals as goal
 

@@ -1,9 +1,4 @@
-use Rattle.std.proofs.Common.{◌∙◌, ap, sym, subst, ◌≡◌, false, Some}
-use Rattle.std.specs.Prelude.{not, filter, option_map}
-use Rattle.std.specs.List.{list_any}
-use Rattle.context_tree.specs.Context.{same}
-use Rattle.call_contexts.specs.Standing.{WithHooks, IsBare, gone, without}
-use Rattle.call_contexts.specs.Sound.{life_at}
+use Rattle.call_contexts.proofs.Names.{◌∙◌, ap, sym, subst, ◌≡◌, false, Some, not, filter, option_map, list_any, same, WithHooks, IsBare, gone, without, life_at}
 use Rattle.call_contexts.proofs.Distinct.{calls_apart}
 use Rattle.call_contexts.proofs.Lists.{none_found}
 use Rattle.call_contexts.proofs.Leaving.{call_let_go, sound_left, seen_left, none_gone}

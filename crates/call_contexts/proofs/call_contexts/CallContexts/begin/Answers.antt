@@ -1,8 +1,4 @@
-use Rattle.std.proofs.Common.{◌∙◌, ◌++◌, ◌∷◌, [], ap, refl, sym, ◌≡◌, true}
-use Rattle.context_tree.specs.Tree.{is_among}
-use Rattle.after_funcs.specs.Hooks.{registered}
-use Rattle.call_contexts.specs.Standing.{WithHooks, is_conn, begun}
-use Rattle.call_contexts.specs.Sound.{with_call, let_go}
+use Rattle.call_contexts.proofs.Names.{◌∙◌, ◌++◌, ◌∷◌, [], ap, refl, sym, ◌≡◌, true, is_among, registered, WithHooks, is_conn, begun, with_call, let_go}
 use Rattle.call_contexts.proofs.Seeing.{conn_among}
 use Rattle.call_contexts.proofs.Making.{call_free, call_unmade}
 use Rattle.call_contexts.proofs.Beginning.{sound_begun, seen_begun, begun_unheld, is_new, sound_alike, seen_alike, given_back, handed_back}

@@ -1,8 +1,4 @@
-use Rattle.std.proofs.Common.{◌≡◌, ◌∙◌, ◌<◌, ap, sym, subst, length, true, false, None}
-use Rattle.std.specs.List.{list_any}
-use Rattle.context_tree.specs.Context.{same}
-use Rattle.call_contexts.specs.Standing.{WithHooks, branched, is_call, seen_call}
-use Rattle.call_contexts.specs.Sound.{IsPlaced, life_at}
+use Rattle.call_contexts.proofs.Names.{◌≡◌, ◌∙◌, ◌<◌, ap, sym, subst, length, true, false, None, list_any, same, WithHooks, branched, is_call, seen_call, IsPlaced, life_at}
 use Rattle.call_contexts.proofs.Branching.{same_set, seen_started, sound_started}
 use Rattle.call_contexts.proofs.Hooking.{pair_is}
 use Rattle.call_contexts.proofs.Lists.{any_map, by_answer, if_ok, none_found, on_err}

@@ -1,8 +1,4 @@
-use Rattle.std.proofs.Common.{◌∙◌, ap, sym, ◌≡◌, Some, true}
-use Rattle.context_tree.specs.declared.node.Kind.TheVariants.{Cancel}
-use Rattle.context_tree.specs.Context.{held}
-use Rattle.context_tree.specs.Tree.{is_among}
-use Rattle.call_contexts.specs.Standing.{WithHooks, cancelled, is_conn}
+use Rattle.call_contexts.proofs.Names.{◌∙◌, ap, sym, ◌≡◌, Some, true, Cancel, held, is_among, WithHooks, cancelled, is_conn}
 use Rattle.call_contexts.proofs.Seeing.{conn_among, conn_held, same_slots, sound_after_cancel}
 use Rattle.call_contexts.proofs.Cancelling.{seen_cancelled}
 use Rattle.call_contexts.proofs.Hooking.{pair_is}

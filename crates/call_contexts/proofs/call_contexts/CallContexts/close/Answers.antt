@@ -1,10 +1,5 @@
-use Rattle.std.proofs.Common.{◌∙◌, ap, sym, ◌≡◌, true, false, rules}
-use Rattle.std.specs.Prelude.{not, filter, map}
-use Rattle.std.specs.List.{list_any}
+use Rattle.call_contexts.proofs.Names.{◌∙◌, ap, sym, ◌≡◌, true, false, rules, not, filter, map, list_any, same, is_among, WithHooks, is_conn, closed, seen_call}
 use Rattle.std.proofs.lemmas.Fn.{filter_same}
-use Rattle.context_tree.specs.Context.{same}
-use Rattle.context_tree.specs.Tree.{is_among}
-use Rattle.call_contexts.specs.Standing.{WithHooks, is_conn, closed, seen_call}
 use Rattle.call_contexts.proofs.Seeing.{conn_among}
 use Rattle.call_contexts.proofs.Leaving.{conn_free, sound_closed, seen_closed}
 use Rattle.call_contexts.proofs.Hooking.{pair_is}

@@ -1,7 +1,4 @@
-use Rattle.std.proofs.Common.{◌≡◌, ◌∙◌, None, Some, ap, sym}
-use Rattle.std.specs.Prelude.{option_map}
-use Rattle.call_contexts.specs.Standing.{WithHooks, ctx_for}
-use Rattle.call_contexts.specs.Sound.{life_for}
+use Rattle.call_contexts.proofs.Names.{◌≡◌, ◌∙◌, None, Some, ap, sym, option_map, WithHooks, ctx_for, life_for}
 use Rattle.call_contexts.proofs.Seeing.{ctx_kept}
 use Rattle.call_contexts.proofs.call_contexts.CallContexts.ctx_for.Goals as goal
 

@@ -1,5 +1,4 @@
-use Rattle.std.proofs.Common.{◌∙◌, ap}
-use Rattle.call_contexts.specs.Standing.{WithHooks, all_ended}
+use Rattle.call_contexts.proofs.Names.{◌∙◌, ap, WithHooks, all_ended}
 use Rattle.call_contexts.proofs.Seeing.{same_slots, seen_drained, sound_after_cancel}
 use Rattle.call_contexts.proofs.Hooking.{pair_is}
 use Rattle.call_contexts.proofs.call_contexts.CallContexts.drain.Goals as goal

@@ -1,17 +1,12 @@
-use Rattle.std.proofs.Common.{◌∙◌, ap, sym, subst, [], ◌≡◌, true, false, is_some, Some}
-use Rattle.std.specs.Prelude.{not, filter, IfSome, option_map}
-use Rattle.std.specs.List.{list_any}
-use Rattle.context_tree.specs.Context.{same}
-use Rattle.call_contexts.specs.Standing.{WithHooks, IsBare, gone, without, is_call, seen_call, hook_for}
-use Rattle.call_contexts.specs.Sound.{life_at}
+use Rattle.call_contexts.proofs.Names.{◌∙◌, ap, sym, subst, [], ◌≡◌, true, false, is_some, Some, not, filter, IfSome, option_map, list_any, same, WithHooks, IsBare, gone, without, is_call, seen_call, hook_for, life_at}
 use Rattle.call_contexts.proofs.Distinct.{calls_apart}
 use Rattle.call_contexts.proofs.Lists.{any_map, none_found, found_any}
 use Rattle.call_contexts.proofs.Leaving.{call_let_go, sound_left, seen_left, none_gone}
 use Rattle.call_contexts.proofs.Branches.{bare_gone, bare_twigs, turned_bare, turned_call}
 use Rattle.call_contexts.proofs.Hooking.{pair_is, fired_waits, fired_due, fired_answer, fewer_hooks, no_hook_gone, fired_gives}
-use Rattle.call_contexts.proofs.call_contexts.CallContexts.end.Goals as goal
 use Rattle.call_contexts.proofs.call_contexts.CallContexts.end.Goals.{in-Some-ran, in-None}
 use Rattle.call_contexts.proofs.Trees.{none_held as not_none}
+use Rattle.call_contexts.proofs.call_contexts.CallContexts.end.Goals as goal
 
 pub returns-in_default-clause-ran : goal.returns-in_default-clause-ran
 returns-in_default-clause-ran g c =

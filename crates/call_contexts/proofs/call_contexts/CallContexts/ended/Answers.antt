@@ -1,7 +1,4 @@
-use Rattle.std.proofs.Common.{◌∙◌, ap, sym, ◌≡◌, None, Some}
-use Rattle.std.specs.Prelude.{option_and_then, option_map}
-use Rattle.call_contexts.specs.Standing.{WithHooks, cause_in, ended_call}
-use Rattle.call_contexts.specs.Sound.{life_for}
+use Rattle.call_contexts.proofs.Names.{◌∙◌, ap, sym, ◌≡◌, None, Some, option_and_then, option_map, WithHooks, cause_in, ended_call, life_for}
 use Rattle.call_contexts.proofs.Leaving.{call_known, ended_told}
 use Rattle.call_contexts.proofs.Seeing.{asked}
 use Rattle.call_contexts.proofs.call_contexts.CallContexts.ended.Goals as goal

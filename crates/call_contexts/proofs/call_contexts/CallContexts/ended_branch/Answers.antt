@@ -1,7 +1,4 @@
-use Rattle.std.proofs.Common.{◌∙◌, ap, sym, ◌≡◌, None, Some, true, false}
-use Rattle.std.specs.Prelude.{if◌then◌else◌, is_some, option_and_then, option_map}
-use Rattle.call_contexts.specs.Standing.{WithHooks, cause_in, ended_branch, if_before}
-use Rattle.call_contexts.specs.Sound.{life_for, soonest_of}
+use Rattle.call_contexts.proofs.Names.{◌∙◌, ap, sym, ◌≡◌, None, Some, true, false, is_some, if◌then◌else◌, option_and_then, option_map, WithHooks, cause_in, ended_branch, if_before, life_for, soonest_of}
 use Rattle.call_contexts.proofs.Sooner.{ended_found, kept_before, soonest_held, soonest_told}
 use Rattle.call_contexts.proofs.call_contexts.CallContexts.ended_branch.Goals as goal
 

@@ -1,5 +1,4 @@
-use Rattle.std.proofs.Common.{◌∙◌, ap}
-use Rattle.call_contexts.specs.Standing.{WithHooks, expired}
+use Rattle.call_contexts.proofs.Names.{◌∙◌, ap, WithHooks, expired}
 use Rattle.call_contexts.proofs.Seeing.{seen_expired, sound_expired}
 use Rattle.call_contexts.proofs.Hooking.{pair_is}
 use Rattle.call_contexts.proofs.call_contexts.CallContexts.expire.Goals as goal

@@ -1,7 +1,4 @@
-use Rattle.std.proofs.Common.{◌∙◌, ap, sym}
-use Rattle.std.specs.Prelude.{◌==◌, option_map}
-use Rattle.std.specs.List.{find}
-use Rattle.call_contexts.specs.Standing.{WithHooks, first_of}
+use Rattle.call_contexts.proofs.Names.{◌∙◌, ap, sym, ◌==◌, option_map, find, WithHooks, first_of}
 use Rattle.call_contexts.proofs.Seeing.{first_kept}
 use Rattle.call_contexts.proofs.call_contexts.CallContexts.first_call.Goals as goal
 

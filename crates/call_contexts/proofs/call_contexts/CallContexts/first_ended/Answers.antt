@@ -1,8 +1,4 @@
-use Rattle.std.proofs.Common.{◌≡◌, ◌∙◌, ap, subst, sym, true, false}
-use Rattle.std.specs.Prelude.{IfNone, IfSome}
-use Rattle.std.specs.List.{list_any}
-use Rattle.call_contexts.specs.Standing.{WithHooks, has_ended, is_over}
-use Rattle.call_contexts.specs.Sound.{FindsEnded, IsSound}
+use Rattle.call_contexts.proofs.Names.{◌≡◌, ◌∙◌, ap, subst, sym, true, false, IfNone, IfSome, list_any, WithHooks, has_ended, is_over, FindsEnded, IsSound}
 use Rattle.call_contexts.proofs.Hooking.{pair_is}
 use Rattle.call_contexts.proofs.call_contexts.CallContexts.first_ended.Goals as goal
 

@@ -1,6 +1,4 @@
-use Rattle.std.proofs.Common.{◌≡◌, ◌∙◌, ◌<◌, ap, sym, subst, length, None}
-use Rattle.call_contexts.specs.Standing.{WithHooks, drop_branch, seen, seen_branches, unbranched}
-use Rattle.call_contexts.specs.Sound.{IsPlaced, life_at}
+use Rattle.call_contexts.proofs.Names.{◌≡◌, ◌∙◌, ◌<◌, ap, sym, subst, length, None, WithHooks, drop_branch, seen, seen_branches, unbranched, IsPlaced, life_at}
 use Rattle.call_contexts.proofs.Branches.{none_seen}
 use Rattle.call_contexts.proofs.Branching.{dropped_seen, same_set, seen_same, seen_taken, sound_taken}
 use Rattle.call_contexts.proofs.Hooking.{pair_is}

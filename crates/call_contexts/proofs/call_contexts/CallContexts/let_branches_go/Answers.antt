@@ -1,6 +1,4 @@
-use Rattle.std.proofs.Common.{◌≡◌, ◌∙◌, [], ap, sym, subst, None}
-use Rattle.call_contexts.specs.Standing.{WithHooks, bare_call}
-use Rattle.call_contexts.specs.Sound.{IsPlaced, life_at}
+use Rattle.call_contexts.proofs.Names.{◌≡◌, ◌∙◌, [], ap, sym, subst, None, WithHooks, bare_call, IsPlaced, life_at}
 use Rattle.call_contexts.proofs.Branches.{none_seen}
 use Rattle.call_contexts.proofs.Hooking.{pair_is}
 use Rattle.call_contexts.proofs.Lists.{none_found}

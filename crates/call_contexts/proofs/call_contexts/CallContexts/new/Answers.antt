@@ -1,4 +1,4 @@
-use Rattle.std.proofs.Common.{refl, []}
+use Rattle.call_contexts.proofs.Names.{refl, []}
 use Rattle.call_contexts.proofs.Seeing.{new_sound, base_live}
 use Rattle.call_contexts.proofs.call_contexts.CallContexts.new.Goals as goal
 

@@ -1,8 +1,4 @@
-use Rattle.std.proofs.Common.{◌≡◌, subst, true}
-use Rattle.std.specs.Prelude.{All, IfSome}
-use Rattle.std.specs.List.{list_any}
-use Rattle.std.proofs.lemmas.Option.{IfSome_then}
-use Rattle.call_contexts.specs.Standing.{IsNoSooner, AreNoSooner, WithHooks, has_deadline}
+use Rattle.call_contexts.proofs.Names.{◌≡◌, subst, true, All, IfSome, list_any, IfSome_then, IsNoSooner, AreNoSooner, WithHooks, has_deadline}
 use Rattle.call_contexts.proofs.Seeing.{no_sooner, branches_no_sooner}
 use Rattle.call_contexts.proofs.Deadlines.{has_first}
 use Rattle.call_contexts.proofs.call_contexts.CallContexts.next_deadline.Goals as goal

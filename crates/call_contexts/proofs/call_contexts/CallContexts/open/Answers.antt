@@ -1,5 +1,4 @@
-use Rattle.std.proofs.Common.{◌∙◌, ap}
-use Rattle.call_contexts.specs.Standing.{WithHooks, opened}
+use Rattle.call_contexts.proofs.Names.{◌∙◌, ap, WithHooks, opened}
 use Rattle.call_contexts.proofs.Beginning.{sound_opened, seen_opened, is_new, open_unheld}
 use Rattle.call_contexts.proofs.Hooking.{pair_is}
 use Rattle.call_contexts.proofs.call_contexts.CallContexts.open.Goals as goal

@@ -1,10 +1,4 @@
-use Rattle.std.proofs.Common.{◌∙◌, ap, sym, ◌≡◌, None, Some}
-use Rattle.std.specs.Prelude.{option_and_then, option_map}
-use Rattle.std.proofs.lemmas.Option.{same_Some}
-use Rattle.std.specs.Option.{option_copied}
-use Rattle.context_tree.specs.Context.{held, line, nearest}
-use Rattle.call_contexts.specs.Standing.{WithHooks, request_for, value_in}
-use Rattle.call_contexts.specs.Sound.{life_for}
+use Rattle.call_contexts.proofs.Names.{◌∙◌, ap, sym, ◌≡◌, None, Some, option_and_then, option_map, same_Some, option_copied, held, line, nearest, WithHooks, request_for, value_in, life_for}
 use Rattle.call_contexts.proofs.Leaving.{call_known, request_told, asked_held, none_is_some}
 use Rattle.call_contexts.proofs.Seeing.{asked}
 use Rattle.call_contexts.proofs.call_contexts.CallContexts.request_id.Goals as goal

@@ -1,5 +1,4 @@
-use Rattle.std.proofs.Common.{◌≡◌, drop}
-use Rattle.call_contexts.specs.Sound.{soonest_of}
+use Rattle.call_contexts.proofs.Names.{◌≡◌, drop, soonest_of}
 use Rattle.call_contexts.proofs.Sooner.{merged}
 use Rattle.call_contexts.proofs.twigs.Twigs.soonest.Given as goal
 

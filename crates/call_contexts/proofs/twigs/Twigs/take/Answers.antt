@@ -1,7 +1,4 @@
-use Rattle.std.proofs.Common.{◌≡◌, ◌∙◌, ◌<◌, ◌++◌, ◌∷◌, suc, ap, arith, length, sym, take, drop}
-use Rattle.std.specs.Prelude.{slice_index_or}
-use Rattle.std.specs.List.{remove}
-use Rattle.call_contexts.specs.declared.twig.Twig.{Twig}
+use Rattle.call_contexts.proofs.Names.{◌≡◌, ◌∙◌, ◌<◌, ◌++◌, ◌∷◌, suc, ap, arith, length, sym, take, drop, slice_index_or, remove, Twig}
 use Rattle.call_contexts.proofs.Branches.{dropped_at, dropped_none, split_at}
 use Rattle.call_contexts.proofs.twigs.Twigs.take.Goals as goal
 

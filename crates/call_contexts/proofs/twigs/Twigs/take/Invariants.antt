@@ -1,6 +1,4 @@
-use Rattle.std.proofs.Common.{◌≡◌, ℕ, ◌<◌}
-use Rattle.std.specs.Prelude.{slice_index_or}
-use Rattle.call_contexts.specs.declared.twig.Twig.{Twig}
+use Rattle.call_contexts.proofs.Names.{◌≡◌, ℕ, ◌<◌, slice_index_or, Twig}
 use Rattle.call_contexts.proofs.twigs.Twigs.take.Given as goal
 
 -- those that were passed have other numbers

@@ -1,5 +1,4 @@
-use Rattle.std.proofs.Common.{ap, ◌∙◌}
-use Rattle.std.specs.Prelude.{is_some}
+use Rattle.gateway_connection.specs.lemmas.Names.{ap, ◌∙◌, is_some}
 use Rattle.gateway_theory.specs.lemmas.ArrivalLemmas.{no_call, timely}
 use Rattle.gateway_connection.proofs.connection.Connection.arriving.Goals as goal
 

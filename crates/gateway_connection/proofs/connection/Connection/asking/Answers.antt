@@ -1,18 +1,4 @@
-use Rattle.std.proofs.Common.{◌≡◌, ◌∙◌, ◌++◌, ◌∷◌, [], None, Some, ap, append-nil, false, refl, sym, subst}
-use Rattle.gateway_model.specs.declared.entry.ReplyEntry.TheVariants.{Call as Calling}
-use Rattle.gateway_model.specs.declared.id.CallId.{CallId}
-use Rattle.gateway_model.specs.Queue.{record_of}
-use Rattle.gateway_replies.specs.Contexts.{ContextsValue, KeepsOthers, by_drain, contexts_value, ends_of, is_life, is_peer, without}
-use Rattle.gateway_replies.specs.Hooks.{TakesAtMostOne, stock_in}
-use Rattle.gateway_theory.specs.Begins.{begun_live, ends_first, first_out}
-use Rattle.gateway_theory.specs.Machine.{is_full}
-use Rattle.gateway_theory.specs.Replies.{ReplyValue}
-use Rattle.gateway_theory.specs.Step.{step_to}
-use Rattle.gateway_theory.specs.Values.{gone}
-use Rattle.gateway_theory.specs.lemmas.Cases.{err_if}
-use Rattle.gateway_theory.specs.Held.{next_held}
-use Rattle.gateway_connection.specs.Linked.{event_for, life_in, none_over}
-use Rattle.gateway_connection.specs.OwnContexts.{LeavesOthers}
+use Rattle.gateway_connection.specs.lemmas.Names.{◌≡◌, ◌∙◌, ◌++◌, ◌∷◌, [], None, Some, ap, append-nil, false, refl, sym, subst, Call as Calling, CallId, record_of, ContextsValue, KeepsOthers, by_drain, contexts_value, ends_of, is_life, is_peer, without, TakesAtMostOne, stock_in, begun_live, ends_first, first_out, is_full, ReplyValue, step_to, gone, err_if, next_held, event_for, life_in, none_over, LeavesOthers}
 use Rattle.gateway_connection.proofs.EnterLemmas.{asking_first, begun_gone, begun_is, begun_on, begun_others, first_event, first_linked, keeps_then, may_ends, may_fresh, may_known, may_stocked, stays_same, taken_leaves, takes_then}
 use Rattle.gateway_connection.proofs.connection.Connection.asking.Goals as goal
 

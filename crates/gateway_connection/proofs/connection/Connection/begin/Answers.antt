@@ -1,14 +1,4 @@
-use Rattle.std.proofs.Common.{◌≡◌, ◌∙◌, ◌++◌, ◌∷◌, [], None, ap, arith, map, refl, sym, subst}
-use Rattle.std.proofs.lemmas.List.{map-append}
-use Rattle.std.proofs.lemmas.List.Sums.{sum_by_push}
-use Rattle.gateway_theory.specs.Conn.{AreInPlace, entry_in}
-use Rattle.gateway_theory.specs.Values.{KeptValue, HeldConnection, held_connection}
-use Rattle.gateway_theory.specs.Store.{waiting, waiting_in}
-use Rattle.gateway_theory.specs.Task.{job_at}
-use Rattle.gateway_theory.specs.Held.{Holds, next_held}
-use Rattle.gateway_connection.specs.Holds.{held_by}
-use Rattle.gateway_connection.specs.Jobs.{JobsValue}
-use Rattle.gateway_connection.specs.KeptCall.{IsBegun}
+use Rattle.gateway_connection.specs.lemmas.Names.{◌≡◌, ◌∙◌, ◌++◌, ◌∷◌, [], None, ap, arith, map, refl, sym, subst, map-append, sum_by_push, AreInPlace, entry_in, KeptValue, HeldConnection, held_connection, waiting, waiting_in, job_at, Holds, next_held, held_by, JobsValue, IsBegun}
 use Rattle.gateway_connection.proofs.EnterLemmas.{begun_held, first_queued}
 use Rattle.gateway_connection.proofs.HoldsLemmas.{holds_begun}
 use Rattle.gateway_connection.proofs.SlotLemmas.{more_place}

@@ -1,11 +1,4 @@
-use Rattle.std.proofs.Common.{◌≡◌, ◌∙◌, None, ap, append-nil, arith, refl, sym, subst, true}
-use Rattle.gateway_theory.specs.Store.{waiting}
-use Rattle.gateway_theory.specs.lemmas.Cases.{or_true}
-use Rattle.gateway_theory.specs.Held.{broken_held}
-use Rattle.gateway_theory.specs.Values.{HeldConnection, KeptValue}
-use Rattle.std.specs.Prelude.{All}
-use Rattle.gateway_connection.specs.Holds.{held_by}
-use Rattle.gateway_connection.specs.OwnContexts.{LeavesOthers}
+use Rattle.gateway_connection.specs.lemmas.Names.{◌≡◌, ◌∙◌, None, ap, append-nil, arith, refl, sym, subst, true, waiting, or_true, broken_held, HeldConnection, KeptValue, All, held_by, LeavesOthers}
 use Rattle.gateway_connection.specs.lemmas.OwnContexts.{others_closed}
 use Rattle.gateway_connection.proofs.HoldsLemmas.{all_dead, holds_given}
 use Rattle.gateway_connection.proofs.LentLemmas.{tied_shut}

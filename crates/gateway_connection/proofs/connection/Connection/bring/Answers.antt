@@ -1,9 +1,6 @@
-use Rattle.std.proofs.Common.{◌∙◌, None, ap, sym}
-use Rattle.http_pieces.specs.Reader.{state_of}
+use Rattle.gateway_connection.specs.lemmas.Names.{◌∙◌, None, ap, sym, state_of, Request, coming_of, HeldConnection}
+use Rattle.gateway_model.specs.Occurrence.{Refused}
 use Rattle.gateway_model.specs.Arrival.{arrival_of}
-use Rattle.gateway_model.specs.Occurrence.{Refused, Request}
-use Rattle.gateway_theory.specs.Held.{coming_of}
-use Rattle.gateway_theory.specs.Values.{HeldConnection}
 use Rattle.gateway_connection.proofs.StreamLemmas.{refused_by}
 use Rattle.gateway_connection.proofs.connection.Connection.bring.Goals as goal
 

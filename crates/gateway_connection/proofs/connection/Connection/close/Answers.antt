@@ -1,11 +1,4 @@
-use Rattle.std.proofs.Common.{◌≡◌, ◌∙◌, None, ap, append-nil, arith, false, length, map, refl, sym, subst, true, []}
-use Rattle.std.specs.Prelude.{All}
-use Rattle.gateway_theory.specs.Conn.{entry_in}
-use Rattle.gateway_theory.specs.Values.{KeptValue, HeldConnection}
-use Rattle.gateway_theory.specs.Store.{given_up, waiting}
-use Rattle.gateway_theory.specs.Held.{closed_held}
-use Rattle.gateway_connection.specs.Holds.{held_by}
-use Rattle.gateway_connection.specs.OwnContexts.{LeavesOthers}
+use Rattle.gateway_connection.specs.lemmas.Names.{◌≡◌, ◌∙◌, None, ap, append-nil, arith, false, length, map, refl, sym, subst, true, [], All, entry_in, KeptValue, HeldConnection, given_up, waiting, closed_held, held_by, LeavesOthers}
 use Rattle.gateway_connection.specs.lemmas.OwnContexts.{others_closed}
 use Rattle.gateway_connection.proofs.HoldsLemmas.{all_dead, holds_given}
 use Rattle.gateway_connection.proofs.SlotLemmas.{none_placed}

@@ -1,6 +1,4 @@
-use Rattle.std.proofs.Common.{◌<◌, ◌≤◌, ◌∙◌, ap, arith, length, refl, sym}
-use Rattle.gateway_theory.specs.Values.{HeldConnection}
-use Rattle.gateway_theory.specs.lemmas.StoreLemmas.{on_err, on_ok}
+use Rattle.gateway_connection.specs.lemmas.Names.{◌<◌, ◌≤◌, ◌∙◌, ap, arith, length, refl, sym, HeldConnection, on_err, on_ok}
 use Rattle.gateway_connection.proofs.BroadcastLemmas.{fails_waits, some_all, some_broke, some_broke_rest, some_first, some_known, some_next, some_own, some_rest, some_size, some_tied, some_waits}
 use Rattle.gateway_connection.proofs.connection.Connection.end_calls.Goals as goal
 

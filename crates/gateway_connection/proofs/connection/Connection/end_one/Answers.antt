@@ -1,16 +1,4 @@
-use Rattle.std.proofs.Common.{◌≡◌, ◌<◌, ◌++◌, ◌∷◌, ◌∙◌, Some, [], ap, append-nil, arith, length, refl, sym, subst, true}
-use Rattle.std.specs.Prelude.{if◌then◌else◌, is_some, option_map, option_to_list, slice_set}
-use Rattle.gateway_replies.specs.Contexts.{without}
-use Rattle.gateway_theory.specs.Values.{KeptValue, HeldConnection}
-use Rattle.gateway_theory.specs.Replies.{reply_with}
-use Rattle.gateway_theory.specs.Store.{given_up, kept_at, no_call, waiting, waiting_in}
-use Rattle.gateway_theory.specs.lemmas.Cases.{err_if}
-use Rattle.gateway_theory.specs.Held.{Holds, broken_held}
-use Rattle.gateway_connection.specs.Ends.{ending_of}
-use Rattle.gateway_connection.specs.Holds.{held_by}
-use Rattle.gateway_connection.specs.Jobs.{JobsValue}
-use Rattle.gateway_connection.specs.Linked.{ends_with, event_for}
-use Rattle.gateway_connection.specs.OwnContexts.{LeavesContexts, LeavesOthers}
+use Rattle.gateway_connection.specs.lemmas.Names.{◌≡◌, ◌<◌, ◌++◌, ◌∷◌, ◌∙◌, Some, [], ap, append-nil, arith, length, refl, sym, subst, true, if◌then◌else◌, is_some, option_map, option_to_list, slice_set, without, KeptValue, HeldConnection, reply_with, given_up, kept_at, no_call, waiting, waiting_in, err_if, Holds, broken_held, ending_of, held_by, JobsValue, ends_with, event_for, LeavesContexts, LeavesOthers}
 use Rattle.gateway_connection.specs.lemmas.OwnContexts.{keeps_leaves, others_same, without_leaves}
 use Rattle.gateway_connection.proofs.DoneLemmas.{part_waits, given_first, given_waits, some_ends}
 use Rattle.gateway_connection.proofs.HoldsLemmas.{here_is, holds_set}

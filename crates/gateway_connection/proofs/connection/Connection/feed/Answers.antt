@@ -1,5 +1,4 @@
-use Rattle.std.proofs.Common.{◌∙◌, [], refl, sym}
-use Rattle.gateway_theory.specs.Held.{dropped}
+use Rattle.gateway_connection.specs.lemmas.Names.{◌∙◌, [], refl, sym, dropped}
 use Rattle.gateway_connection.proofs.LentLemmas.{rest_none}
 use Rattle.gateway_connection.proofs.StreamLemmas.{all_feeds, none_feeds}
 use Rattle.gateway_connection.proofs.connection.Connection.feed.Goals as goal

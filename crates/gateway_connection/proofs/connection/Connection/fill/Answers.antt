@@ -1,9 +1,4 @@
-use Rattle.std.proofs.Common.{◌∙◌, ap, arith}
-use Rattle.gateway_model.specs.declared.id.CallId.{CallId}
-use Rattle.gateway_connection.specs.Holds.{held_by}
-use Rattle.gateway_theory.specs.Held.{replied}
-use Rattle.gateway_theory.specs.lemmas.StoreLemmas.{none_of}
-use Rattle.std.specs.Prelude.{Some}
+use Rattle.gateway_connection.specs.lemmas.Names.{◌∙◌, ap, arith, Some, CallId, held_by, replied, none_of}
 use Rattle.gateway_connection.proofs.SlotLemmas.{fill_view}
 use Rattle.gateway_connection.proofs.connection.Connection.fill.Goals as goal
 

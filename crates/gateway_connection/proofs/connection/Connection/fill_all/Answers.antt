@@ -1,7 +1,4 @@
-use Rattle.std.proofs.Common.{rules, ◌≡◌, ◌∙◌, [], ap, refl, sym, subst}
-use Rattle.std.specs.Prelude.{All}
-use Rattle.gateway_theory.specs.Replies.{ReplyValue}
-use Rattle.gateway_connection.specs.Ends.{filled_by}
+use Rattle.gateway_connection.specs.lemmas.Names.{rules, ◌≡◌, ◌∙◌, [], ap, refl, sym, subst, All, ReplyValue, filled_by}
 use Rattle.gateway_connection.proofs.SlotLemmas.{all_before, filled_last, filled_none, last_own, replied_number}
 use Rattle.gateway_connection.proofs.connection.Connection.fill_all.Goals as goal
 

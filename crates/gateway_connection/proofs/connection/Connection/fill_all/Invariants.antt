@@ -1,7 +1,4 @@
-use Rattle.std.proofs.Common.{◌≡◌, length}
-use Rattle.std.specs.Prelude.{All}
-use Rattle.gateway_theory.specs.Replies.{ReplyValue}
-use Rattle.gateway_connection.specs.Ends.{filled_by}
+use Rattle.gateway_connection.specs.lemmas.Names.{◌≡◌, length, All, ReplyValue, filled_by}
 use Rattle.gateway_connection.proofs.connection.Connection.fill_all.Given as goal
 
 -- those that are left fill the slots as all did

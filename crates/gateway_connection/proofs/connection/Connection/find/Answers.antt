@@ -1,8 +1,4 @@
-use Rattle.std.proofs.Common.{ap, sym, arith, ◌<◌, ◌∙◌, length, subst}
-use Rattle.std.proofs.lemmas.Bool.{eq-eqb, ne_eqb}
-use Rattle.gateway_theory.specs.Held.{Holds}
-use Rattle.gateway_theory.specs.Values.{HeldConnection}
-use Rattle.gateway_model.specs.declared.id.CallId.{CallId}
+use Rattle.gateway_connection.specs.lemmas.Names.{ap, sym, arith, ◌<◌, ◌∙◌, length, subst, eq-eqb, ne_eqb, Holds, HeldConnection, CallId}
 use Rattle.gateway_connection.proofs.HoldsLemmas.{found_here, here_is, not_here}
 use Rattle.gateway_connection.proofs.connection.Connection.find.Goals as goal
 

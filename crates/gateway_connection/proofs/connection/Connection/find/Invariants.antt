@@ -1,6 +1,4 @@
-use Rattle.std.proofs.Common.{◌≡◌, ℕ, ◌<◌, false}
-use Rattle.gateway_model.specs.Past.{call_id, is_call}
-use Rattle.gateway_theory.specs.Store.{kept_at}
+use Rattle.gateway_connection.specs.lemmas.Names.{◌≡◌, ℕ, ◌<◌, false, call_id, is_call, kept_at}
 use Rattle.gateway_connection.proofs.connection.Connection.find.Given as goal
 
 abbrev pub invariant-loop-index : goal.invariant-loop-index

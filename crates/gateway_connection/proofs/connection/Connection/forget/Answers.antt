@@ -1,11 +1,4 @@
-use Rattle.std.proofs.Common.{◌<◌, ◌∙◌, ap, arith, length, subst, sym, refl}
-use Rattle.std.specs.Prelude.{filter, not}
-use Rattle.gateway_model.specs.Past.{is_call}
-use Rattle.gateway_theory.specs.Values.{KeptValue, HeldConnection}
-use Rattle.gateway_theory.specs.Results.{is_spent}
-use Rattle.gateway_theory.specs.Store.{kept_at}
-use Rattle.gateway_theory.specs.Held.{Holds, forgotten, stays}
-use Rattle.gateway_connection.specs.Holds.{held_by}
+use Rattle.gateway_connection.specs.lemmas.Names.{◌<◌, ◌∙◌, ap, arith, length, subst, sym, refl, filter, not, is_call, KeptValue, HeldConnection, is_spent, kept_at, Holds, forgotten, stays, held_by}
 use Rattle.gateway_connection.proofs.HoldsLemmas.{here_is, holds_filtered}
 use Rattle.gateway_connection.proofs.LentLemmas.{itself_at, itself_found, without_is}
 use Rattle.gateway_connection.proofs.connection.Connection.forget.Goals as goal

@@ -1,10 +1,4 @@
-use Rattle.std.proofs.Common.{◌∙◌, [], ap, sym, subst}
-use Rattle.gateway_theory.specs.declared.trigger.Trigger.TheVariants.{HungUp}
-use Rattle.gateway_replies.specs.Contexts.{told}
-use Rattle.gateway_theory.specs.Held.{hung_held}
-use Rattle.gateway_theory.specs.Values.{HeldConnection}
-use Rattle.gateway_connection.specs.Lent.{LeavesRest, MayStep}
-use Rattle.gateway_connection.specs.Linked.{over_by}
+use Rattle.gateway_connection.specs.lemmas.Names.{◌∙◌, [], ap, sym, subst, HungUp, told, hung_held, HeldConnection, LeavesRest, MayStep, over_by}
 use Rattle.gateway_connection.proofs.StreamLemmas.{hung_may, hung_rest}
 use Rattle.gateway_connection.proofs.connection.Connection.hang_up.Goals as goal
 

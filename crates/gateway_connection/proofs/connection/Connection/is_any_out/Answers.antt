@@ -1,9 +1,4 @@
-use Rattle.std.proofs.Common.{◌≡◌, ◌<◌, ◌∙◌, Bool, ap, arith, false, length, sym, ⊎_elim}
-use Rattle.std.specs.List.{list_any}
-use Rattle.std.proofs.lemmas.Bool.{cases_eq}
-use Rattle.std.proofs.lemmas.List.Folds.{list_any_at, list_any_none}
-use Rattle.gateway_theory.specs.Values.{HeldConnection, KeptValue}
-use Rattle.gateway_theory.specs.Store.{kept_at, no_call}
+use Rattle.gateway_connection.specs.lemmas.Names.{◌≡◌, ◌<◌, ◌∙◌, Bool, ap, arith, false, length, sym, ⊎_elim, list_any, cases_eq, list_any_at, list_any_none, HeldConnection, KeptValue, kept_at, no_call}
 use Rattle.gateway_connection.proofs.HoldsLemmas.{here_is, at_all}
 use Rattle.gateway_connection.proofs.connection.Connection.is_any_out.Goals as goal
 

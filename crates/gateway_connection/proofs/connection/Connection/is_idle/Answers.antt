@@ -1,10 +1,4 @@
-use Rattle.std.proofs.Common.{◌≡◌, List, Option, length, sym, ap, ◌∙◌, arith}
-use Rattle.std.specs.Prelude.{◌==◌}
-use Rattle.std.proofs.lemmas.List.{length-map}
-use Rattle.gateway_model.specs.declared.entry.ReplyEntry.{ReplyEntry}
-use Rattle.gateway_theory.specs.Values.{HeldConnection}
-use Rattle.gateway_theory.specs.Conn.{entry_in}
-use Rattle.gateway_model.specs.Queue.{front}
+use Rattle.gateway_connection.specs.lemmas.Names.{◌≡◌, List, Option, length, sym, ap, ◌∙◌, arith, ◌==◌, length-map, ReplyEntry, HeldConnection, entry_in, front}
 use Rattle.gateway_theory.specs.lemmas.SlotLemmas.{front_all}
 use Rattle.gateway_connection.proofs.connection.Connection.is_idle.Goals as goal
 

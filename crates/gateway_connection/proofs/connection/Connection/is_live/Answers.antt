@@ -1,8 +1,4 @@
-use Rattle.std.proofs.Common.{◌∙◌, ap, sym}
-use Rattle.std.specs.Prelude.{is_some}
-use Rattle.gateway_model.specs.Past.{call_id}
-use Rattle.gateway_theory.specs.Values.{CallState, HeldConnection}
-use Rattle.gateway_theory.specs.lemmas.StoreLemmas.{call_missing}
+use Rattle.gateway_connection.specs.lemmas.Names.{◌∙◌, ap, sym, is_some, call_id, CallState, HeldConnection, call_missing}
 use Rattle.gateway_connection.proofs.HoldsLemmas.{found_call}
 use Rattle.gateway_connection.proofs.connection.Connection.is_live.Goals as goal
 

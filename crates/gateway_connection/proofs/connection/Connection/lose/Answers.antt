@@ -1,7 +1,4 @@
-use Rattle.std.proofs.Common.{◌∙◌, ap, arith, length}
-use Rattle.gateway_theory.specs.Values.{HeldConnection}
-use Rattle.gateway_theory.specs.Results.{back_kept}
-use Rattle.gateway_theory.specs.Store.{kept_at}
+use Rattle.gateway_connection.specs.lemmas.Names.{◌∙◌, ap, arith, length, HeldConnection, back_kept, kept_at}
 use Rattle.gateway_connection.proofs.HoldsLemmas.{set_size}
 use Rattle.gateway_connection.proofs.LentLemmas.{broken_dead, broken_size}
 use Rattle.gateway_connection.proofs.TakenLemmas.{loses, loses_rest, loses_tied}

@@ -1,8 +1,4 @@
-use Rattle.std.proofs.Common.{◌<◌, ◌∙◌, ap, arith, length, sym}
-use Rattle.gateway_model.specs.Past.{call_id}
-use Rattle.gateway_theory.specs.Values.{KeptValue, HeldConnection}
-use Rattle.gateway_theory.specs.Step.{has_out}
-use Rattle.gateway_theory.specs.lemmas.StoreLemmas.{call_missing}
+use Rattle.gateway_connection.specs.lemmas.Names.{◌<◌, ◌∙◌, ap, arith, length, sym, call_id, KeptValue, HeldConnection, has_out, call_missing}
 use Rattle.gateway_connection.proofs.HoldsLemmas.{found_call, here_is}
 use Rattle.gateway_connection.proofs.connection.Connection.out_at.Goals as goal
 

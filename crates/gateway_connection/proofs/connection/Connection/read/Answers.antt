@@ -1,14 +1,7 @@
-use Rattle.std.proofs.Common.{◌∙◌, ◌<◌, Err, ap, sym, subst}
-use Rattle.std.specs.Prelude.{IfErr}
+use Rattle.gateway_connection.specs.lemmas.Names.{◌∙◌, ◌<◌, Err, ap, sym, subst, IfErr, most_requests, ReadsOn, coming_of, hears, next_held, read_held, HeldConnection, Brings, BringsNone, ReadsNone, MayStep, none_over}
 use Rattle.std.proofs.lemmas.Result.{err_from_is_err_and}
-use Rattle.http_pieces.specs.Request.{most_requests}
-use Rattle.gateway_theory.specs.Held.{ReadsOn, coming_of, hears, next_held, read_held}
-use Rattle.gateway_theory.specs.Values.{HeldConnection}
-use Rattle.gateway_connection.specs.Comes.{Brings, BringsNone, ReadsNone}
-use Rattle.gateway_connection.specs.Comes as comes
-use Rattle.gateway_connection.specs.Lent.{MayStep}
-use Rattle.gateway_connection.specs.Linked.{none_over}
 use Rattle.gateway_connection.proofs.StreamLemmas.{gives_by, read_may, read_room, reads_by}
+use Rattle.gateway_connection.specs.Comes as comes
 use Rattle.gateway_connection.proofs.connection.Connection.read.Goals as goal
 
 pub bring-requires-clause-may : goal.bring-requires-clause-may

@@ -1,8 +1,4 @@
-use Rattle.std.proofs.Common.{◌≡◌, ◌<◌, ◌∙◌, [], ap, arith, length, refl, sym}
-use Rattle.gateway_theory.specs.Store.{kept_at}
-use Rattle.gateway_theory.specs.Held.{result_in, unknown}
-use Rattle.gateway_theory.specs.Values.{HeldConnection}
-use Rattle.gateway_theory.specs.lemmas.StoreLemmas.{on_err, on_ok}
+use Rattle.gateway_connection.specs.lemmas.Names.{◌≡◌, ◌<◌, ◌∙◌, [], ap, arith, length, refl, sym, kept_at, result_in, unknown, HeldConnection, on_err, on_ok}
 use Rattle.gateway_connection.proofs.HoldsLemmas.{here_is}
 use Rattle.gateway_connection.proofs.LentLemmas.{rest_none}
 use Rattle.gateway_connection.proofs.TakenLemmas.{result_lost, result_settled, settled_size, settled_tied, unsettled_size, unsettled_waits}

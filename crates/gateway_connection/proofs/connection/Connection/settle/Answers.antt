@@ -1,13 +1,4 @@
-use Rattle.std.proofs.Common.{◌≡◌, ◌<◌, ◌∙◌, Some, None, ap, arith, length, refl, sym, subst}
-use Rattle.gateway_model.specs.declared.entry.ReplyEntry.TheVariants.{Call as Calling}
-use Rattle.gateway_model.specs.declared.id.CallId.{CallId}
-use Rattle.gateway_replies.specs.Contexts.{KeepsOthers, is_life, without}
-use Rattle.gateway_theory.specs.Values.{KeptValue, HeldConnection}
-use Rattle.gateway_theory.specs.Replies.{ReplyValue}
-use Rattle.gateway_theory.specs.Store.{kept_at, no_call}
-use Rattle.gateway_theory.specs.lemmas.Cases.{err_if}
-use Rattle.gateway_theory.specs.Held.{replied}
-use Rattle.gateway_connection.specs.Ends.{TakesAt}
+use Rattle.gateway_connection.specs.lemmas.Names.{◌≡◌, ◌<◌, ◌∙◌, Some, None, ap, arith, length, refl, sym, subst, Call as Calling, CallId, KeepsOthers, is_life, without, KeptValue, HeldConnection, ReplyValue, kept_at, no_call, err_if, replied, TakesAt}
 use Rattle.gateway_connection.proofs.HoldsLemmas.{here_is}
 use Rattle.gateway_connection.proofs.TakenLemmas.{decided_fails, decided_known, settles_on, settles_with, taken_id, taken_number, taken_size}
 use Rattle.gateway_connection.proofs.connection.Connection.settle.Goals as goal

@@ -1,9 +1,4 @@
-use Rattle.std.proofs.Common.{◌≡◌, ◌<◌, ◌∙◌, [], None, ap, arith, length, refl, sym}
-use Rattle.std.specs.Prelude.{is_some}
-use Rattle.gateway_theory.specs.Values.{KeptValue, HeldConnection}
-use Rattle.gateway_theory.specs.Results.{back_kept}
-use Rattle.gateway_theory.specs.Store.{kept_at}
-use Rattle.gateway_theory.specs.Held.{unknown}
+use Rattle.gateway_connection.specs.lemmas.Names.{◌≡◌, ◌<◌, ◌∙◌, [], None, ap, arith, length, refl, sym, is_some, KeptValue, HeldConnection, back_kept, kept_at, unknown}
 use Rattle.gateway_connection.proofs.HoldsLemmas.{here_is, set_size}
 use Rattle.gateway_connection.proofs.LentLemmas.{rest_conn, rest_none}
 use Rattle.gateway_connection.proofs.TakenLemmas.{late_tied, late_waits, none_live, starved_late, starved_lost}

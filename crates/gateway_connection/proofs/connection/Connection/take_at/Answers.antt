@@ -1,15 +1,4 @@
-use Rattle.std.proofs.Common.{◌≡◌, ◌<◌, ◌+◌, ◌∷◌, ◌∙◌, Some, [], ap, append-nil, arith, inl, length, refl, sym, subst, false}
-use Rattle.std.specs.Prelude.{◌||◌, if◌then◌else◌, is_some, slice_set}
-use Rattle.gateway_replies.specs.Contexts.{ContextsValue, KeepsOthers, ends_of, is_life, peer}
-use Rattle.gateway_theory.specs.Values.{KeptValue, Live, HeldConnection}
-use Rattle.gateway_theory.specs.Step.{result_on}
-use Rattle.gateway_theory.specs.Store.{kept_at, no_call, waiting, waiting_in}
-use Rattle.gateway_theory.specs.lemmas.Cases.{err_if}
-use Rattle.gateway_theory.specs.Held.{Holds, result_in}
-use Rattle.gateway_connection.specs.Jobs.{JobsValue}
-use Rattle.gateway_connection.specs.KeptCall.{GoesOn, IsStep}
-use Rattle.gateway_connection.specs.Linked.{none_over, passed_on}
-use Rattle.gateway_connection.specs.OwnContexts.{LeavesContexts, LeavesOthers, own_contexts}
+use Rattle.gateway_connection.specs.lemmas.Names.{◌≡◌, ◌<◌, ◌+◌, ◌∷◌, ◌∙◌, Some, [], ap, append-nil, arith, inl, length, refl, sym, subst, false, ◌||◌, if◌then◌else◌, is_some, slice_set, ContextsValue, KeepsOthers, ends_of, is_life, peer, KeptValue, Live, HeldConnection, result_on, kept_at, no_call, waiting, waiting_in, err_if, Holds, result_in, JobsValue, GoesOn, IsStep, none_over, passed_on, LeavesContexts, LeavesOthers, own_contexts}
 use Rattle.gateway_connection.specs.lemmas.OwnContexts.{apart_own, is_life_own, keeps_leaves, leaves_none, others_same}
 use Rattle.gateway_connection.proofs.DoneLemmas.{part_waits, set_waits, set_same}
 use Rattle.gateway_connection.proofs.HoldsLemmas.{here_is}

@@ -1,10 +1,5 @@
-use Rattle.std.proofs.Common.{sym, subst}
+use Rattle.gateway_connection.specs.lemmas.Names.{sym, subst, Request, err_if, arriving_in, next_held, HeldConnection, Arrives, MayFail}
 use Rattle.gateway_model.specs.Arrival.{arrival_of}
-use Rattle.gateway_model.specs.Occurrence.{Request}
-use Rattle.gateway_theory.specs.lemmas.Cases.{err_if}
-use Rattle.gateway_theory.specs.Held.{arriving_in, next_held}
-use Rattle.gateway_theory.specs.Values.{HeldConnection}
-use Rattle.gateway_connection.specs.Comes.{Arrives, MayFail}
 use Rattle.gateway_connection.proofs.EnterLemmas.{answered_enters, begins_enters, begins_fails}
 use Rattle.gateway_connection.proofs.connection.Connection.take_in.Goals as goal
 

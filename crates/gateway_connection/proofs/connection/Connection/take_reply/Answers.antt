@@ -1,7 +1,4 @@
-use Rattle.std.proofs.Common.{rules, ◌≡◌, ◌+◌, Some, drop, refl, subst}
-use Rattle.std.specs.Prelude.{slice_get}
-use Rattle.gateway_theory.specs.Held.{TakesReply}
-use Rattle.gateway_connection.specs.Holds.{held_by}
+use Rattle.gateway_connection.specs.lemmas.Names.{rules, ◌≡◌, ◌+◌, Some, drop, refl, subst, slice_get, TakesReply, held_by}
 use Rattle.gateway_connection.proofs.HoldsLemmas.{holds_as}
 use Rattle.gateway_connection.proofs.SlotLemmas.{first_next, rest_place, takes_first}
 use Rattle.gateway_connection.proofs.connection.Connection.take_reply.Goals as goal

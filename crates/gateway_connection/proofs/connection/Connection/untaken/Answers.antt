@@ -1,12 +1,4 @@
-use Rattle.std.proofs.Common.{◌≡◌, ℕ, ◌<◌, true, false, length, map, List, Option, sym, ap, ◌∙◌, subst, arith, ⊎_elim}
-use Rattle.std.specs.Prelude.{is_some, nat_lt}
-use Rattle.std.proofs.lemmas.Bool.{cases_Bool, ltb-true, ltb-false}
-use Rattle.std.proofs.lemmas.List.{length-map}
-use Rattle.gateway_model.specs.declared.entry.ReplyEntry.{ReplyEntry}
-use Rattle.gateway_theory.specs.Values.{HeldConnection}
-use Rattle.gateway_theory.specs.Conn.{entry_in}
-use Rattle.gateway_theory.specs.Machine.{slot_at}
-use Rattle.gateway_model.specs.Queue.{front}
+use Rattle.gateway_connection.specs.lemmas.Names.{◌≡◌, ℕ, ◌<◌, true, false, length, map, List, Option, sym, ap, ◌∙◌, subst, arith, ⊎_elim, is_some, nat_lt, cases_Bool, ltb-true, ltb-false, length-map, ReplyEntry, HeldConnection, entry_in, slot_at, front}
 use Rattle.gateway_theory.specs.lemmas.SlotLemmas.{entry_here, front_size, slot_behind, slot_none, slot_some}
 use Rattle.gateway_connection.proofs.connection.Connection.untaken.Goals as goal
 

@@ -1,8 +1,4 @@
-use Rattle.std.proofs.Common.{rules, ◌≡◌, ◌+◌, ◌++◌, [], ◌∷◌, List, map, length, sym, ap, ◌∙◌, append-nil, append_assoc, arith, refl}
-use Rattle.std.proofs.lemmas.List.{map-append, length-append}
-use Rattle.gateway_theory.specs.Task.{HandedJob, job_at}
-use Rattle.gateway_theory.specs.Values.{TaskValue}
-use Rattle.gateway_connection.specs.Jobs.{JobsValue}
+use Rattle.gateway_connection.specs.lemmas.Names.{rules, ◌≡◌, ◌+◌, ◌++◌, [], ◌∷◌, List, map, length, sym, ap, ◌∙◌, append-nil, append_assoc, arith, refl, map-append, length-append, HandedJob, job_at, TaskValue, JobsValue}
 use Rattle.gateway_connection.proofs.connection.entering.start_all.Goals as goal
 
 pub loop-task-init : goal.loop-task-init

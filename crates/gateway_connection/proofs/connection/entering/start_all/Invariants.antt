@@ -1,6 +1,4 @@
-use Rattle.std.proofs.Common.{◌≡◌, ◌+◌, ◌++◌, List, length, map}
-use Rattle.gateway_theory.specs.Task.{job_at}
-use Rattle.gateway_theory.specs.Values.{TaskValue}
+use Rattle.gateway_connection.specs.lemmas.Names.{◌≡◌, ◌+◌, ◌++◌, List, length, map, job_at, TaskValue}
 use Rattle.gateway_connection.proofs.connection.entering.start_all.Given as goal
 
 -- those before the first that is left were queued

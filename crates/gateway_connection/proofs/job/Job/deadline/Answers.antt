@@ -1,5 +1,4 @@
-use Rattle.std.proofs.Common.{ap, sym}
-use Rattle.gateway_theory.specs.Task.{HandedJob}
+use Rattle.gateway_connection.specs.lemmas.Names.{ap, sym, HandedJob}
 use Rattle.gateway_connection.proofs.job.Job.deadline.Goals as goal
 
 pub returns-clause-left : goal.returns-clause-left

@@ -1,11 +1,5 @@
-use Rattle.std.proofs.Common.{◌≡◌, ◌+◌, ◌++◌, [], ◌∷◌, length, subst, sym, ap, ◌∙◌}
-use Rattle.std.specs.Prelude.{◌==◌}
-use Rattle.call_plan.specs.Plan.{IsLawful}
+use Rattle.gateway_connection.specs.lemmas.Names.{◌≡◌, ◌+◌, ◌++◌, [], ◌∷◌, length, subst, sym, ap, ◌∙◌, ◌==◌, IsLawful, record_of, LiveValue, live_value, KeptValue, has_out}
 use Rattle.gateway_model.specs.declared.call_event.CallEvent.TheVariants.{Answer as Answered}
-use Rattle.gateway_model.specs.Queue.{record_of}
-use Rattle.gateway_connection.specs.KeptCall.{LiveValue, live_value}
-use Rattle.gateway_theory.specs.Values.{KeptValue}
-use Rattle.gateway_theory.specs.Step.{has_out}
 use Rattle.gateway_connection.proofs.KeptLemmas.{room_next, fail_kept, answer_last_kept, answer_going_kept, last_step, going_step}
 use Rattle.gateway_connection.proofs.kept.Kept.take_result.Goals as goal
 

@@ -1,9 +1,5 @@
-use Rattle.std.proofs.Common.{sym, subst, ap, ◌∙◌}
-use Rattle.std.specs.Prelude.{is_some}
-use Rattle.gateway_theory.specs.Told.{IsWanted}
-use Rattle.gateway_core.specs.Whole.{gateway_of}
+use Rattle.gateway_core.proofs.Names.{sym, subst, ap, ◌∙◌, is_some, IsWanted, gateway_of, wanted_is}
 use Rattle.gateway_core.proofs.TakenLemmas.{kept_is}
-use Rattle.gateway_theory.specs.lemmas.Laws.{wanted_is}
 use Rattle.gateway_core.proofs.gateway.Core.is_wanted.Goals as goal
 
 pub returns : goal.returns

@@ -1,4 +1,4 @@
-use Rattle.gateway_theory.specs.lemmas.Laws.{known}
+use Rattle.gateway_core.proofs.Names.{known}
 use Rattle.gateway_core.proofs.gateway.Core.known_law.Goals as goal
 
 pub returns : goal.returns

@@ -1,6 +1,5 @@
-use Rattle.std.proofs.Common.{subst, []}
+use Rattle.gateway_core.proofs.Names.{subst, [], first_stands, first_lives}
 use Rattle.gateway_core.proofs.TakenLemmas.{first_is}
-use Rattle.gateway_theory.specs.lemmas.Laws.{first_stands, first_lives}
 use Rattle.gateway_theory.specs.Served.{Served, Lives}
 use Rattle.gateway_model.specs.History.{no_history}
 use Rattle.gateway_core.proofs.gateway.Core.new.Goals as goal

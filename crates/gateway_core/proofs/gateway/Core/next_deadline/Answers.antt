@@ -1,7 +1,4 @@
-use Rattle.std.proofs.Common.{sym, subst, ap, ◌∙◌, ℕ}
-use Rattle.std.specs.Prelude.{◌≡◌}
-use Rattle.gateway_theory.specs.Gateway.{deadline_ahead, ends_calls}
-use Rattle.gateway_model.specs.Past.{is_due}
+use Rattle.gateway_core.proofs.Names.{sym, subst, ap, ◌∙◌, ℕ, ◌≡◌, deadline_ahead, ends_calls, is_due}
 use Rattle.gateway_core.proofs.DueLemmas.{least_is, quiet_is}
 use Rattle.gateway_core.proofs.StepLemmas.{numbered}
 use Rattle.gateway_core.proofs.gateway.Core.next_deadline.Goals as goal

@@ -1,19 +1,9 @@
-use Rattle.std.proofs.Common.{sym, subst, ap, ◌∙◌, Ok, Err, refl, false, arith, List}
-use Rattle.gateway_theory.specs.Serving.{Keeps, IsServing}
-use Rattle.gateway_theory.specs.Told.{AddsOpening, OpensFew, TakesOpening}
-use Rattle.gateway_theory.specs.lemmas.ServingSteps.{opens_serving}
-use Rattle.gateway_core.specs.Whole.{IsWhole, gateway_of}
+use Rattle.gateway_core.proofs.Names.{sym, subst, ap, ◌∙◌, Ok, Err, refl, false, arith, List, ◌+◌, Keeps, IsServing, AddsOpening, OpensFew, TakesOpening, opens_serving, IsWhole, gateway_of, opens_adds, opens_few, opens_keeps, opens_stands, same_keeps, unopens_adds, unopens_stands, is_at, remove_entry, nat_cmp}
 use Rattle.gateway_core.proofs.StepLemmas.{same_whole}
-use Rattle.gateway_core.proofs.OpenLemmas.{no_peer, opens_step, opens_whole}
-use Rattle.gateway_theory.specs.lemmas.Laws.{opens_adds, opens_few, opens_keeps, opens_stands, same_keeps, unopens_adds, unopens_stands}
+use Rattle.gateway_core.proofs.OpenLemmas.{no_peer, opens_step, opens_whole, unborn}
 use Rattle.gateway_theory.specs.declared.fault.OpenError.{OpenError}
 use Rattle.gateway_theory.specs.declared.fault.OpenError.TheVariants.{Full, Exhausted, Memory}
-use Rattle.std.specs.BTreeMap.{is_at}
-use Rattle.std.specs.Map.{remove_entry}
-use Rattle.std.specs.Ordering.{nat_cmp}
 use Rattle.gateway_core.proofs.MapLemmas.{restored}
-use Rattle.gateway_core.proofs.OpenLemmas.{unborn}
-use Rattle.std.proofs.Common.{◌+◌}
 use Rattle.gateway_core.proofs.gateway.Core.open_conn.Goals as goal
 
 pub returns-then-self-ge-MOST_OPEN-clause-stands : goal.returns-then-self-ge-MOST_OPEN-clause-stands

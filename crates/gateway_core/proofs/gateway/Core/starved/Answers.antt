@@ -1,22 +1,6 @@
-use Rattle.std.proofs.Common.{sym, subst, ap, ◌∙◌, false, arith, [], ◌∷◌}
-use Rattle.std.specs.Prelude.{◌≡◌, ◌==◌}
-use Rattle.gateway_theory.specs.Gateway.{one_if_open}
-use Rattle.gateway_theory.specs.Serving.{KeepsBut}
-use Rattle.gateway_theory.specs.Steps.{absent, Tallies}
-use Rattle.gateway_theory.specs.Told.{AddsEvent, TakesEvent, TellsTook}
-use Rattle.gateway_theory.specs.lemmas.ServingSteps.{starved_like, starves_serving}
-use Rattle.gateway_model.specs.declared.event.Event.TheVariants.{BranchResult}
-use Rattle.gateway_core.specs.Whole.{gateway_of, held_at}
+use Rattle.gateway_core.proofs.Names.{sym, subst, ap, ◌∙◌, arith, [], ◌≡◌, one_if_open, absent, Tallies, starved_like, starves_serving, gateway_of, held_at, IsWithout, is_at, set_value, nat_cmp, is_gone, if◌then◌else◌, call_id}
 use Rattle.gateway_core.proofs.StepLemmas.{left_whole, may_step, moves_left, starves_step}
-use Rattle.gateway_theory.specs.lemmas.Laws.{starves_adds, starves_keeps, starves_stands, starves_tells}
-use Rattle.std.specs.BTreeMap.{is_at}
-use Rattle.std.specs.Map.{set_value}
-use Rattle.std.specs.Ordering.{nat_cmp}
-use Rattle.gateway_theory.specs.Held.{is_gone}
-use Rattle.gateway_core.specs.Whole.{IsWithout}
-use Rattle.std.specs.Prelude.{if◌then◌else◌}
-use Rattle.gateway_model.specs.Past.{call_id}
-use Rattle.connect_codec.specs.declared.answer.Outcome.{Outcome}
+use Rattle.gateway_core.proofs.ClauseLemmas.{Unheard, unheard}
 use Rattle.gateway_core.proofs.gateway.Core.starved.Goals as goal
 
 pub starved-took-requires : goal.starved-took-requires
@@ -29,26 +13,14 @@ invariant_of-self-2 g c =
     left_whole c.self.invariant c.args.call.now.conn c.in-Some.held.now c.starved-took.new.self (c.in-Some.ensures.value ∙ ap (λ m. held_at m c.self.inside.conns.entries) c.number-number.ensures) ((c.get_mut.follows.holds c.starved-took.new.self).0 ∙ ap (λ m. set_value (is_at (nat_cmp m)) c.self.inside.conns.entries c.starved-took.new.self) c.number-number.ensures) (subst (λ m. IsWithout (is_gone c.starved-took.new.self) m (c.get_mut.follows.lender c.starved-took.new.self).entries c.remove_if.new.conns.entries) c.number-number.ensures (subst (λ b. IsWithout b c.number-number.result (c.get_mut.follows.lender c.starved-took.new.self).entries c.remove_if.new.conns.entries) c.is_gone-gone.ensures c.remove_if.ensures)) c.starved-took.new.shared [] c.add-2.new.self c.self.inside.open c.starved-took.ensures.rest c.starved-took.ensures.tied x.0.number_is x.1
     (omega (arith, one)) (starves_serving c.args.call.now c.args.branch (gateway_of c.self.inside.shared c.self.inside.conns.entries c.self.inside.opened c.self.inside.tally) (gateway_of c.starved-took.new.shared c.remove_if.new.conns.entries c.self.inside.opened c.add-2.new.self) c.starved-took.result (starves_step c.self.invariant c.args.call.now c.args.branch c.starved-took.result c.in-Some.held.now c.starved-took.new.self (c.in-Some.ensures.value ∙ ap (λ m. held_at m c.self.inside.conns.entries) c.number-number.ensures) (moves_left c.self.invariant c.args.call.now.conn c.in-Some.held.now c.starved-took.new.self (c.in-Some.ensures.value ∙ ap (λ m. held_at m c.self.inside.conns.entries) c.number-number.ensures) ((c.get_mut.follows.holds c.starved-took.new.self).0 ∙ ap (λ m. set_value (is_at (nat_cmp m)) c.self.inside.conns.entries c.starved-took.new.self) c.number-number.ensures) (subst (λ m. IsWithout (is_gone c.starved-took.new.self) m (c.get_mut.follows.lender c.starved-took.new.self).entries c.remove_if.new.conns.entries) c.number-number.ensures (subst (λ b. IsWithout b c.number-number.result (c.get_mut.follows.lender c.starved-took.new.self).entries c.remove_if.new.conns.entries) c.is_gone-gone.ensures c.remove_if.ensures)) c.starved-took.new.shared c.add-2.new.self) c.add-2.ensures c.starved-took.ensures.takes c.starved-took.ensures.rest c.starved-took.ensures.begun) c.self.invariant.serving)
 
-pub returns-in_default-clause-stands : goal.returns-in_default-clause-stands
-returns-in_default-clause-stands g c = subst (λ x. (outcome : Outcome) → TakesEvent (BranchResult c.args.call.now.conn c.args.call.now.request c.args.branch outcome) x (gateway_of c.self.inside.shared c.get_mut.follows.lender-at-none.entries c.self.inside.opened c.add.new.self)) c.self.view_is (starves_stands c.args.call.now c.args.branch (gateway_of c.self.inside.shared c.self.inside.conns.entries c.self.inside.opened c.self.inside.tally) (gateway_of c.self.inside.shared c.get_mut.follows.lender-at-none.entries c.self.inside.opened c.add.new.self) c.unknown.result (absent (sym (c.in_default.ensures.value ∙ ap (λ m. held_at m c.self.inside.conns.entries) c.number-number.ensures)) c.unknown.ensures (subst (λ q. Tallies q.seen (gateway_of c.self.inside.shared c.self.inside.conns.entries c.self.inside.opened c.self.inside.tally) (gateway_of c.self.inside.shared c.get_mut.follows.lender-at-none.entries c.self.inside.opened c.add.new.self)) (sym c.unknown.ensures) c.add.ensures) (ap (λ m. gateway_of c.self.inside.shared m.entries c.self.inside.opened c.add.new.self) c.get_mut.follows.holds-at-none)) c.self.invariant.serving)
+pub returns-in_default : goal.returns-in_default
+returns-in_default g c =
+    let w = gateway_of c.self.inside.shared c.get_mut.follows.lender-at-none.entries c.self.inside.opened c.add.new.self in
+    let all = subst (λ x. Unheard c.args.call.now c.args.branch c.unknown.result x w) c.self.view_is (unheard c.self.invariant.serving (absent (sym (c.in_default.ensures.value ∙ ap (λ m. held_at m c.self.inside.conns.entries) c.number-number.ensures)) c.unknown.ensures (subst (λ q. Tallies q.seen (gateway_of c.self.inside.shared c.self.inside.conns.entries c.self.inside.opened c.self.inside.tally) (gateway_of c.self.inside.shared c.get_mut.follows.lender-at-none.entries c.self.inside.opened c.add.new.self)) (sym c.unknown.ensures) c.add.ensures) (ap (λ m. gateway_of c.self.inside.shared m.entries c.self.inside.opened c.add.new.self) c.get_mut.follows.holds-at-none))) in
+    record { stands = all.stands; adds = all.adds; tells = all.tells; keeps = all.keeps }
 
-pub returns-in_default-clause-adds : goal.returns-in_default-clause-adds
-returns-in_default-clause-adds g c = subst (λ x. (outcome : Outcome) → AddsEvent (BranchResult c.args.call.now.conn c.args.call.now.request c.args.branch outcome) x (gateway_of c.self.inside.shared c.get_mut.follows.lender-at-none.entries c.self.inside.opened c.add.new.self)) c.self.view_is (starves_adds c.args.call.now c.args.branch (gateway_of c.self.inside.shared c.self.inside.conns.entries c.self.inside.opened c.self.inside.tally) (gateway_of c.self.inside.shared c.get_mut.follows.lender-at-none.entries c.self.inside.opened c.add.new.self) c.unknown.result (absent (sym (c.in_default.ensures.value ∙ ap (λ m. held_at m c.self.inside.conns.entries) c.number-number.ensures)) c.unknown.ensures (subst (λ q. Tallies q.seen (gateway_of c.self.inside.shared c.self.inside.conns.entries c.self.inside.opened c.self.inside.tally) (gateway_of c.self.inside.shared c.get_mut.follows.lender-at-none.entries c.self.inside.opened c.add.new.self)) (sym c.unknown.ensures) c.add.ensures) (ap (λ m. gateway_of c.self.inside.shared m.entries c.self.inside.opened c.add.new.self) c.get_mut.follows.holds-at-none)) c.self.invariant.serving)
-
-pub returns-in_default-clause-tells : goal.returns-in_default-clause-tells
-returns-in_default-clause-tells g c = subst (λ x. TellsTook c.args.call.now c.args.branch c.unknown.result x (gateway_of c.self.inside.shared c.get_mut.follows.lender-at-none.entries c.self.inside.opened c.add.new.self)) c.self.view_is (starves_tells c.args.call.now c.args.branch (gateway_of c.self.inside.shared c.self.inside.conns.entries c.self.inside.opened c.self.inside.tally) (gateway_of c.self.inside.shared c.get_mut.follows.lender-at-none.entries c.self.inside.opened c.add.new.self) c.unknown.result (absent (sym (c.in_default.ensures.value ∙ ap (λ m. held_at m c.self.inside.conns.entries) c.number-number.ensures)) c.unknown.ensures (subst (λ q. Tallies q.seen (gateway_of c.self.inside.shared c.self.inside.conns.entries c.self.inside.opened c.self.inside.tally) (gateway_of c.self.inside.shared c.get_mut.follows.lender-at-none.entries c.self.inside.opened c.add.new.self)) (sym c.unknown.ensures) c.add.ensures) (ap (λ m. gateway_of c.self.inside.shared m.entries c.self.inside.opened c.add.new.self) c.get_mut.follows.holds-at-none)) c.self.invariant.serving)
-
-pub returns-in_default-clause-keeps : goal.returns-in_default-clause-keeps
-returns-in_default-clause-keeps g c = subst (λ x. KeepsBut (λ d. false) (λ d. d == c.args.call.now.conn) (c.unknown.result.seen ∷ []) x (gateway_of c.self.inside.shared c.get_mut.follows.lender-at-none.entries c.self.inside.opened c.add.new.self)) c.self.view_is (starves_keeps c.args.call.now c.args.branch (gateway_of c.self.inside.shared c.self.inside.conns.entries c.self.inside.opened c.self.inside.tally) (gateway_of c.self.inside.shared c.get_mut.follows.lender-at-none.entries c.self.inside.opened c.add.new.self) c.unknown.result (absent (sym (c.in_default.ensures.value ∙ ap (λ m. held_at m c.self.inside.conns.entries) c.number-number.ensures)) c.unknown.ensures (subst (λ q. Tallies q.seen (gateway_of c.self.inside.shared c.self.inside.conns.entries c.self.inside.opened c.self.inside.tally) (gateway_of c.self.inside.shared c.get_mut.follows.lender-at-none.entries c.self.inside.opened c.add.new.self)) (sym c.unknown.ensures) c.add.ensures) (ap (λ m. gateway_of c.self.inside.shared m.entries c.self.inside.opened c.add.new.self) c.get_mut.follows.holds-at-none)) c.self.invariant.serving)
-
-pub returns-clause-stands : goal.returns-clause-stands
-returns-clause-stands g c = subst (λ x. (outcome : Outcome) → TakesEvent (BranchResult c.args.call.now.conn c.args.call.now.request c.args.branch outcome) x (gateway_of c.starved-took.new.shared c.remove_if.new.conns.entries c.self.inside.opened c.add-2.new.self)) c.self.view_is (starves_stands c.args.call.now c.args.branch (gateway_of c.self.inside.shared c.self.inside.conns.entries c.self.inside.opened c.self.inside.tally) (gateway_of c.starved-took.new.shared c.remove_if.new.conns.entries c.self.inside.opened c.add-2.new.self) c.starved-took.result (starves_step c.self.invariant c.args.call.now c.args.branch c.starved-took.result c.in-Some.held.now c.starved-took.new.self (c.in-Some.ensures.value ∙ ap (λ m. held_at m c.self.inside.conns.entries) c.number-number.ensures) (moves_left c.self.invariant c.args.call.now.conn c.in-Some.held.now c.starved-took.new.self (c.in-Some.ensures.value ∙ ap (λ m. held_at m c.self.inside.conns.entries) c.number-number.ensures) ((c.get_mut.follows.holds c.starved-took.new.self).0 ∙ ap (λ m. set_value (is_at (nat_cmp m)) c.self.inside.conns.entries c.starved-took.new.self) c.number-number.ensures) (subst (λ m. IsWithout (is_gone c.starved-took.new.self) m (c.get_mut.follows.lender c.starved-took.new.self).entries c.remove_if.new.conns.entries) c.number-number.ensures (subst (λ b. IsWithout b c.number-number.result (c.get_mut.follows.lender c.starved-took.new.self).entries c.remove_if.new.conns.entries) c.is_gone-gone.ensures c.remove_if.ensures)) c.starved-took.new.shared c.add-2.new.self) c.add-2.ensures c.starved-took.ensures.takes c.starved-took.ensures.rest c.starved-took.ensures.begun) c.self.invariant.serving)
-
-pub returns-clause-adds : goal.returns-clause-adds
-returns-clause-adds g c = subst (λ x. (outcome : Outcome) → AddsEvent (BranchResult c.args.call.now.conn c.args.call.now.request c.args.branch outcome) x (gateway_of c.starved-took.new.shared c.remove_if.new.conns.entries c.self.inside.opened c.add-2.new.self)) c.self.view_is (starves_adds c.args.call.now c.args.branch (gateway_of c.self.inside.shared c.self.inside.conns.entries c.self.inside.opened c.self.inside.tally) (gateway_of c.starved-took.new.shared c.remove_if.new.conns.entries c.self.inside.opened c.add-2.new.self) c.starved-took.result (starves_step c.self.invariant c.args.call.now c.args.branch c.starved-took.result c.in-Some.held.now c.starved-took.new.self (c.in-Some.ensures.value ∙ ap (λ m. held_at m c.self.inside.conns.entries) c.number-number.ensures) (moves_left c.self.invariant c.args.call.now.conn c.in-Some.held.now c.starved-took.new.self (c.in-Some.ensures.value ∙ ap (λ m. held_at m c.self.inside.conns.entries) c.number-number.ensures) ((c.get_mut.follows.holds c.starved-took.new.self).0 ∙ ap (λ m. set_value (is_at (nat_cmp m)) c.self.inside.conns.entries c.starved-took.new.self) c.number-number.ensures) (subst (λ m. IsWithout (is_gone c.starved-took.new.self) m (c.get_mut.follows.lender c.starved-took.new.self).entries c.remove_if.new.conns.entries) c.number-number.ensures (subst (λ b. IsWithout b c.number-number.result (c.get_mut.follows.lender c.starved-took.new.self).entries c.remove_if.new.conns.entries) c.is_gone-gone.ensures c.remove_if.ensures)) c.starved-took.new.shared c.add-2.new.self) c.add-2.ensures c.starved-took.ensures.takes c.starved-took.ensures.rest c.starved-took.ensures.begun) c.self.invariant.serving)
-
-pub returns-clause-tells : goal.returns-clause-tells
-returns-clause-tells g c = subst (λ x. TellsTook c.args.call.now c.args.branch c.starved-took.result x (gateway_of c.starved-took.new.shared c.remove_if.new.conns.entries c.self.inside.opened c.add-2.new.self)) c.self.view_is (starves_tells c.args.call.now c.args.branch (gateway_of c.self.inside.shared c.self.inside.conns.entries c.self.inside.opened c.self.inside.tally) (gateway_of c.starved-took.new.shared c.remove_if.new.conns.entries c.self.inside.opened c.add-2.new.self) c.starved-took.result (starves_step c.self.invariant c.args.call.now c.args.branch c.starved-took.result c.in-Some.held.now c.starved-took.new.self (c.in-Some.ensures.value ∙ ap (λ m. held_at m c.self.inside.conns.entries) c.number-number.ensures) (moves_left c.self.invariant c.args.call.now.conn c.in-Some.held.now c.starved-took.new.self (c.in-Some.ensures.value ∙ ap (λ m. held_at m c.self.inside.conns.entries) c.number-number.ensures) ((c.get_mut.follows.holds c.starved-took.new.self).0 ∙ ap (λ m. set_value (is_at (nat_cmp m)) c.self.inside.conns.entries c.starved-took.new.self) c.number-number.ensures) (subst (λ m. IsWithout (is_gone c.starved-took.new.self) m (c.get_mut.follows.lender c.starved-took.new.self).entries c.remove_if.new.conns.entries) c.number-number.ensures (subst (λ b. IsWithout b c.number-number.result (c.get_mut.follows.lender c.starved-took.new.self).entries c.remove_if.new.conns.entries) c.is_gone-gone.ensures c.remove_if.ensures)) c.starved-took.new.shared c.add-2.new.self) c.add-2.ensures c.starved-took.ensures.takes c.starved-took.ensures.rest c.starved-took.ensures.begun) c.self.invariant.serving)
-
-pub returns-clause-keeps : goal.returns-clause-keeps
-returns-clause-keeps g c = subst (λ x. KeepsBut (λ d. false) (λ d. d == c.args.call.now.conn) (c.starved-took.result.seen ∷ []) x (gateway_of c.starved-took.new.shared c.remove_if.new.conns.entries c.self.inside.opened c.add-2.new.self)) c.self.view_is (starves_keeps c.args.call.now c.args.branch (gateway_of c.self.inside.shared c.self.inside.conns.entries c.self.inside.opened c.self.inside.tally) (gateway_of c.starved-took.new.shared c.remove_if.new.conns.entries c.self.inside.opened c.add-2.new.self) c.starved-took.result (starves_step c.self.invariant c.args.call.now c.args.branch c.starved-took.result c.in-Some.held.now c.starved-took.new.self (c.in-Some.ensures.value ∙ ap (λ m. held_at m c.self.inside.conns.entries) c.number-number.ensures) (moves_left c.self.invariant c.args.call.now.conn c.in-Some.held.now c.starved-took.new.self (c.in-Some.ensures.value ∙ ap (λ m. held_at m c.self.inside.conns.entries) c.number-number.ensures) ((c.get_mut.follows.holds c.starved-took.new.self).0 ∙ ap (λ m. set_value (is_at (nat_cmp m)) c.self.inside.conns.entries c.starved-took.new.self) c.number-number.ensures) (subst (λ m. IsWithout (is_gone c.starved-took.new.self) m (c.get_mut.follows.lender c.starved-took.new.self).entries c.remove_if.new.conns.entries) c.number-number.ensures (subst (λ b. IsWithout b c.number-number.result (c.get_mut.follows.lender c.starved-took.new.self).entries c.remove_if.new.conns.entries) c.is_gone-gone.ensures c.remove_if.ensures)) c.starved-took.new.shared c.add-2.new.self) c.add-2.ensures c.starved-took.ensures.takes c.starved-took.ensures.rest c.starved-took.ensures.begun) c.self.invariant.serving)
+pub returns : goal.returns
+returns g c =
+    let w = gateway_of c.starved-took.new.shared c.remove_if.new.conns.entries c.self.inside.opened c.add-2.new.self in
+    let all = subst (λ x. Unheard c.args.call.now c.args.branch c.starved-took.result x w) c.self.view_is (unheard c.self.invariant.serving (starves_step c.self.invariant c.args.call.now c.args.branch c.starved-took.result c.in-Some.held.now c.starved-took.new.self (c.in-Some.ensures.value ∙ ap (λ m. held_at m c.self.inside.conns.entries) c.number-number.ensures) (moves_left c.self.invariant c.args.call.now.conn c.in-Some.held.now c.starved-took.new.self (c.in-Some.ensures.value ∙ ap (λ m. held_at m c.self.inside.conns.entries) c.number-number.ensures) ((c.get_mut.follows.holds c.starved-took.new.self).0 ∙ ap (λ m. set_value (is_at (nat_cmp m)) c.self.inside.conns.entries c.starved-took.new.self) c.number-number.ensures) (subst (λ m. IsWithout (is_gone c.starved-took.new.self) m (c.get_mut.follows.lender c.starved-took.new.self).entries c.remove_if.new.conns.entries) c.number-number.ensures (subst (λ b. IsWithout b c.number-number.result (c.get_mut.follows.lender c.starved-took.new.self).entries c.remove_if.new.conns.entries) c.is_gone-gone.ensures c.remove_if.ensures)) c.starved-took.new.shared c.add-2.new.self) c.add-2.ensures c.starved-took.ensures.takes c.starved-took.ensures.rest c.starved-took.ensures.begun)) in
+    record { stands = all.stands; adds = all.adds; tells = all.tells; keeps = all.keeps }

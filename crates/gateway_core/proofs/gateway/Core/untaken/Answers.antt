@@ -1,7 +1,4 @@
-use Rattle.std.proofs.Common.{sym, ◌∙◌, length}
-use Rattle.std.specs.Prelude.{◌≡◌}
-use Rattle.gateway_theory.specs.Gateway.{untaken_of}
-use Rattle.gateway_core.specs.Whole.{gateway_of}
+use Rattle.gateway_core.proofs.Names.{sym, ◌∙◌, length, ◌≡◌, untaken_of, gateway_of}
 use Rattle.gateway_core.proofs.StepLemmas.{at_both}
 use Rattle.gateway_core.proofs.TakenLemmas.{untaken_is}
 use Rattle.gateway_model.specs.Queue.{front}

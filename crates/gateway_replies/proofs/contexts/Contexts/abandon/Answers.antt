@@ -1,8 +1,4 @@
-use Rattle.std.proofs.Common.{◌≡◌, ◌∙◌, [], None, Some, ap, append-nil, sym}
-use Rattle.std.specs.Arc.{arc_value}
-use Rattle.call_contexts.specs.Standing.{WithHooks, ctx_for}
-use Rattle.gateway_replies.specs.Hooks.{HookedContexts}
-use Rattle.gateway_replies.specs.Ties.{peer_ties, stock_ties}
+use Rattle.gateway_replies.proofs.Names.{◌≡◌, ◌∙◌, [], None, Some, ap, append-nil, sym, arc_value, WithHooks, ctx_for, HookedContexts, peer_ties, stock_ties}
 use Rattle.gateway_replies.proofs.ContextLemmas.{agree, left_tied, left_value, no_life, without_none}
 use Rattle.gateway_replies.proofs.HookLemmas.{drops_none, drops_one}
 use Rattle.gateway_replies.proofs.contexts.Contexts.abandon.Goals as goal

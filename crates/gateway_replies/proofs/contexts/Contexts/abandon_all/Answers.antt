@@ -1,8 +1,4 @@
-use Rattle.std.proofs.Common.{◌≡◌, ◌∙◌, None, Some, ap, append-nil, arith, length, sym}
-use Rattle.std.specs.Arc.{arc_value}
-use Rattle.call_contexts.specs.Standing.{first_of}
-use Rattle.gateway_replies.specs.Contexts.{ContextsValue, first_life}
-use Rattle.gateway_replies.specs.Hooks.{HookedContexts, hooks_of_others}
+use Rattle.gateway_replies.proofs.Names.{◌≡◌, ◌∙◌, None, Some, ap, append-nil, arith, length, sym, arc_value, first_of, ContextsValue, first_life, HookedContexts, hooks_of_others}
 use Rattle.gateway_replies.proofs.ContextLemmas.{drops_all, drops_one, first_gone, first_in}
 use Rattle.gateway_replies.proofs.HookLemmas.{first_of_it, same_hooks}
 use Rattle.gateway_replies.proofs.contexts.Contexts.abandon_all.Goals as goal

@@ -1,6 +1,4 @@
-use Rattle.std.proofs.Common.{◌≡◌, length}
-use Rattle.gateway_replies.specs.Contexts.{KeepsOthers}
-use Rattle.gateway_replies.specs.Hooks.{hooks_of_others}
+use Rattle.gateway_replies.proofs.Names.{◌≡◌, length, KeepsOthers, hooks_of_others}
 use Rattle.gateway_replies.proofs.contexts.Contexts.abandon_all.Given as goal
 
 abbrev pub invariant-loop-id : goal.invariant-loop-id

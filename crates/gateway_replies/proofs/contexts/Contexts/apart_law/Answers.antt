@@ -1,7 +1,4 @@
-use Rattle.std.proofs.Common.{subst}
-use Rattle.std.specs.Arc.{arc_value}
-use Rattle.gateway_replies.specs.Contexts.{LivesApart}
-use Rattle.gateway_replies.specs.Hooks.{HookedContexts}
+use Rattle.gateway_replies.proofs.Names.{subst, arc_value, LivesApart, HookedContexts}
 use Rattle.gateway_replies.proofs.ContextLemmas.{lives_apart}
 use Rattle.gateway_replies.proofs.contexts.Contexts.apart_law.Goals as goal
 

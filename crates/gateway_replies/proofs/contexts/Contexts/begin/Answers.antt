@@ -1,11 +1,4 @@
-use Rattle.std.proofs.Common.{◌≡◌, ◌∙◌, ◌∷◌, Some, None, true, false, ap, subst, sym}
-use Rattle.std.proofs.lemmas.List.{map_push}
-use Rattle.std.specs.Arc.{arc_value}
-use Rattle.call_contexts.specs.Standing.{WithHooks}
-use Rattle.gateway_model.specs.Past.{ArrivedCall}
-use Rattle.gateway_replies.specs.Contexts.{names_in, CallContext, ContextsValue, ctx_of}
-use Rattle.gateway_replies.specs.Hooks.{HookedContexts, stock_in, stock_of}
-use Rattle.gateway_replies.specs.Ties.{Takes, peer_ties, stock_ties}
+use Rattle.gateway_replies.proofs.Names.{◌≡◌, ◌∙◌, ◌∷◌, Some, None, true, false, ap, subst, sym, map_push, arc_value, WithHooks, ArrivedCall, names_in, CallContext, ContextsValue, ctx_of, HookedContexts, stock_in, stock_of, Takes, peer_ties, stock_ties}
 use Rattle.gateway_replies.proofs.ContextLemmas.{begun_tied, begun_value, known_conn, not_known}
 use Rattle.gateway_replies.proofs.HookLemmas.{has_stock, takes_most, takes_one}
 use Rattle.gateway_replies.proofs.contexts.Contexts.begin.Goals as goal

@@ -1,6 +1,4 @@
-use Rattle.std.proofs.Common.{ap, ◌∙◌}
-use Rattle.std.specs.Prelude.{◌==◌, filter, not}
-use Rattle.gateway_replies.specs.Contexts.{closed}
+use Rattle.gateway_replies.proofs.Names.{ap, ◌∙◌, ◌==◌, filter, not, closed}
 use Rattle.gateway_replies.proofs.ContextLemmas.{closed_both}
 use Rattle.gateway_replies.proofs.contexts.Contexts.close.Goals as goal
 

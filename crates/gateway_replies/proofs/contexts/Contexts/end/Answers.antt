@@ -1,8 +1,4 @@
-use Rattle.std.proofs.Common.{◌≡◌, ◌∙◌, ◌∷◌, [], None, Some, true, false, ap, sym, is_some}
-use Rattle.std.specs.Arc.{arc_value}
-use Rattle.call_contexts.specs.Standing.{WithHooks, ctx_for}
-use Rattle.gateway_replies.specs.Hooks.{HookedContexts}
-use Rattle.gateway_replies.specs.Ties.{peer_ties, stock_ties}
+use Rattle.gateway_replies.proofs.Names.{◌≡◌, ◌∙◌, ◌∷◌, [], None, Some, true, false, ap, sym, is_some, arc_value, WithHooks, ctx_for, HookedContexts, peer_ties, stock_ties}
 use Rattle.gateway_replies.proofs.ContextLemmas.{agree, left_tied, left_value, no_life, stands_in}
 use Rattle.gateway_replies.proofs.HookLemmas.{calls_hook, drops_one}
 use Rattle.gateway_replies.proofs.contexts.Contexts.end.Goals as goal

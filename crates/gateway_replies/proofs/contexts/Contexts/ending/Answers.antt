@@ -1,7 +1,4 @@
-use Rattle.std.proofs.Common.{◌∙◌, ap}
-use Rattle.std.specs.Arc.{arc_value}
-use Rattle.gateway_replies.specs.Contexts.{ending_life, event_of}
-use Rattle.gateway_replies.specs.Hooks.{HookedContexts}
+use Rattle.gateway_replies.proofs.Names.{◌∙◌, ap, arc_value, ending_life, event_of, HookedContexts}
 use Rattle.gateway_replies.proofs.ToldLemmas.{life_ended}
 use Rattle.gateway_replies.proofs.contexts.Contexts.ending.Goals as goal
 

@@ -1,9 +1,4 @@
-use Rattle.std.proofs.Common.{◌≡◌, ◌∙◌, None, Some, ap, refl, sym}
-use Rattle.std.specs.Arc.{arc_value}
-use Rattle.call_contexts.specs.Standing.{WithHooks, ctx_for, drop_branch}
-use Rattle.gateway_replies.specs.Contexts.{names_in, CallContext, LifeValue}
-use Rattle.gateway_replies.specs.Hooks.{HookedContexts}
-use Rattle.gateway_replies.specs.Ties.{peer_ties}
+use Rattle.gateway_replies.proofs.Names.{◌≡◌, ◌∙◌, None, Some, ap, refl, sym, arc_value, WithHooks, ctx_for, drop_branch, names_in, CallContext, LifeValue, HookedContexts, peer_ties}
 use Rattle.gateway_replies.proofs.HookLemmas.{keeps}
 use Rattle.gateway_replies.proofs.ContextLemmas.{agree, no_life}
 use Rattle.gateway_replies.proofs.BranchLemmas.{branched_lives, branched_tied, branched_value, on_none}

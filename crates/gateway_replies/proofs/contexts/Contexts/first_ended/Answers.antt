@@ -1,11 +1,4 @@
-use Rattle.std.proofs.Common.{◌≡◌, false, subst, sym, true}
-use Rattle.std.specs.Arc.{arc_value}
-use Rattle.std.specs.List.{list_any}
-use Rattle.std.specs.Prelude.{IfNone, IfSome}
-use Rattle.call_contexts.specs.Standing.{WithHooks}
-use Rattle.gateway_replies.specs.Contexts.{IsTied, has_ended, is_over}
-use Rattle.gateway_replies.specs.Hooks.{HookedContexts}
-use Rattle.gateway_replies.specs.Ties.{peer_ties}
+use Rattle.gateway_replies.proofs.Names.{◌≡◌, false, subst, sym, true, arc_value, list_any, IfNone, IfSome, WithHooks, IsTied, has_ended, is_over, HookedContexts, peer_ties}
 use Rattle.gateway_replies.proofs.ContextLemmas.{none_over, over_found}
 use Rattle.gateway_replies.proofs.contexts.Contexts.first_ended.Goals as goal
 

@@ -1,9 +1,4 @@
-use Rattle.std.proofs.Common.{◌≡◌, Some, None, false, subst, ap}
-use Rattle.std.specs.Prelude.{All, nat_le}
-use Rattle.std.specs.List.{list_any}
-use Rattle.std.specs.Arc.{arc_value}
-use Rattle.gateway_replies.specs.Contexts.{ContextsValue, IsNotDue, has_due}
-use Rattle.gateway_replies.specs.Hooks.{HookedContexts}
+use Rattle.gateway_replies.proofs.Names.{◌≡◌, Some, None, false, subst, ap, All, nat_le, list_any, arc_value, ContextsValue, IsNotDue, has_due, HookedContexts}
 use Rattle.gateway_replies.proofs.ToldLemmas.{due_is, none_due}
 use Rattle.gateway_replies.proofs.contexts.Contexts.is_due.Goals as goal
 

@@ -1,9 +1,4 @@
-use Rattle.std.proofs.Common.{◌∙◌, ap, sym}
-use Rattle.std.specs.Arc.{arc_value}
-use Rattle.call_contexts.specs.Standing.{WithHooks}
-use Rattle.gateway_replies.specs.Contexts.{names_in, ContextsValue, ctx_of, first_life}
-use Rattle.gateway_replies.specs.Hooks.{HookedContexts}
-use Rattle.gateway_replies.specs.Ties.{peer_ties}
+use Rattle.gateway_replies.proofs.Names.{◌∙◌, ap, sym, arc_value, WithHooks, names_in, ContextsValue, ctx_of, first_life, HookedContexts, peer_ties}
 use Rattle.gateway_replies.proofs.ContextLemmas.{closed_stay, first_in, known_conn, none_of_it, not_known, peer_gone, peer_gone_value}
 use Rattle.gateway_replies.proofs.HookLemmas.{drops_its, drops_nothing}
 use Rattle.gateway_replies.proofs.contexts.Contexts.let_go.Goals as goal

@@ -1,7 +1,4 @@
-use Rattle.std.proofs.Common.{◌≡◌, ap, subst}
-use Rattle.std.specs.Arc.{arc_value}
-use Rattle.gateway_replies.specs.Contexts.{ContextsValue}
-use Rattle.gateway_replies.specs.Hooks.{HookedContexts}
+use Rattle.gateway_replies.proofs.Names.{◌≡◌, ap, subst, arc_value, ContextsValue, HookedContexts}
 use Rattle.gateway_replies.specs.Least.{first_deadline}
 use Rattle.gateway_replies.proofs.LeastLemmas.{first_is}
 use Rattle.gateway_replies.proofs.contexts.Contexts.next_deadline.Goals as goal

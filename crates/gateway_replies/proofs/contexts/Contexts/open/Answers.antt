@@ -1,12 +1,7 @@
-use Rattle.std.proofs.Common.{◌∙◌, ◌++◌, ◌∷◌, [], ap, sym}
-use Rattle.std.specs.Arc.{arc_value}
-use Rattle.call_contexts.specs.Standing.{WithHooks}
-use Rattle.gateway_replies.specs.Hooks.{HookedContexts}
-use Rattle.gateway_replies.specs.Ties.{peer_ties}
+use Rattle.gateway_replies.proofs.Names.{◌∙◌, ◌++◌, ◌∷◌, [], ap, sym, arc_value, WithHooks, HookedContexts, peer_ties, names_in, is_peer}
 use Rattle.gateway_replies.proofs.ContextLemmas.{opened_tied, opened_value}
 use Rattle.gateway_replies.proofs.HookLemmas.{brings, no_stock_yet}
 use Rattle.gateway_replies.proofs.PeerLemmas.{peer_in}
-use Rattle.gateway_replies.specs.Contexts.{names_in, is_peer}
 use Rattle.gateway_replies.proofs.contexts.Contexts.open.Goals as goal
 
 pub invariant_of-self-2 : goal.invariant_of-self-2

@@ -1,10 +1,4 @@
-use Rattle.std.proofs.Common.{ℕ, List, ◌≡◌, ◌∙◌, ◌++◌, [], ◌∷◌, None, Some, refl, true, false, ap, sym}
-use Rattle.std.specs.Option.{option_or}
-use Rattle.std.specs.Arc.{arc_value}
-use Rattle.call_contexts.specs.Standing.{ctx_for, if_due}
-use Rattle.gateway_replies.specs.Contexts.{names_in, CallContext, LifeValue, TimedBranch, by_deadline}
-use Rattle.gateway_replies.specs.Hooks.{HookedContexts}
-use Rattle.gateway_replies.specs.Ties.{peer_ties}
+use Rattle.gateway_replies.proofs.Names.{ℕ, List, ◌≡◌, ◌∙◌, ◌++◌, [], ◌∷◌, None, Some, refl, true, false, ap, sym, option_or, arc_value, ctx_for, if_due, names_in, CallContext, LifeValue, TimedBranch, by_deadline, HookedContexts, peer_ties}
 use Rattle.gateway_replies.proofs.HookLemmas.{keeps, same_hooks_then}
 use Rattle.gateway_replies.proofs.ContextLemmas.{agree, no_life, stands_in}
 use Rattle.gateway_replies.proofs.BranchLemmas.{started_lives, started_tied, started_value}

@@ -1,13 +1,5 @@
-use Rattle.std.proofs.Common.{◌∙◌, Some, ap, map, refl, sym}
-use Rattle.std.specs.Arc.{arc_value}
-use Rattle.context_tree.specs.Context.{same}
-use Rattle.context_tree.specs.declared.error.Cause.TheVariants.{Given}
-use Rattle.call_contexts.specs.Standing.{WithHooks, ends_call, expires_call, if_cancelled}
-use Rattle.gateway_replies.specs.declared.contexts.cancelled.CancelledBy.TheVariants.{HangUp, Drain}
+use Rattle.gateway_replies.proofs.Names.{◌∙◌, Some, ap, map, refl, sym, arc_value, same, Given, WithHooks, ends_call, expires_call, if_cancelled, HangUp, Drain, names_in, ConnContext, ctx_of, told, HookedContexts, peer_ties}
 use Rattle.gateway_theory.specs.declared.trigger.Trigger.{Trigger}
-use Rattle.gateway_replies.specs.Contexts.{names_in, ConnContext, ctx_of, told}
-use Rattle.gateway_replies.specs.Hooks.{HookedContexts}
-use Rattle.gateway_replies.specs.Ties.{peer_ties}
 use Rattle.gateway_replies.proofs.HookLemmas.{keeps}
 use Rattle.gateway_replies.proofs.ContextLemmas.{known_conn}
 use Rattle.gateway_replies.proofs.ToldLemmas.{conns_ended, drained_by, drained_stays, drained_value, hung_value, names_stay, reached_value, told_tied, untold_value}

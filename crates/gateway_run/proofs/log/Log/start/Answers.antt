@@ -1,9 +1,4 @@
-use Rattle.std.proofs.Common.{◌≡◌, ◌∷◌, ◌++◌, [], map, sym, ap, ◌∙◌, append-nil, append_assoc}
-use Rattle.std.proofs.lemmas.List.{map-append}
-use Rattle.gateway_model.specs.declared.id.CallId.{CallId}
-use Rattle.gateway_theory.specs.Task.{HandedJob}
-use Rattle.gateway_run.specs.Log.{LogValue}
-use Rattle.gateway_run.specs.Log.{start_at}
+use Rattle.gateway_run.proofs.Names.{◌≡◌, ◌∷◌, ◌++◌, [], map, sym, ap, ◌∙◌, append-nil, append_assoc, map-append, CallId, HandedJob, LogValue, start_at}
 use Rattle.gateway_run.proofs.Starting.{all_started, log_same, one_started}
 use Rattle.gateway_run.proofs.log.Log.start.Goals as goal
 

@@ -1,6 +1,4 @@
-use Rattle.std.proofs.Common.{◌≡◌, ◌++◌, map, length}
-use Rattle.gateway_theory.specs.Task.{HandedJob}
-use Rattle.gateway_run.specs.Log.{start_at}
+use Rattle.gateway_run.proofs.Names.{◌≡◌, ◌++◌, map, length, HandedJob, start_at}
 use Rattle.gateway_run.proofs.Starting.{Started}
 use Rattle.gateway_run.proofs.log.Log.start.Given as goal
 
