@@ -11,7 +11,7 @@ ghost use Rattle.http_pieces.specs.Request.{most_requests};
 ghost use Rattle.gateway_model.specs.Past.{call_id};
 ghost use Rattle.gateway_model.specs.Queue.{front};
 ghost use Rattle.gateway_theory.specs.Gateway.{are_all_there};
-ghost use Rattle.gateway_theory.specs.Machine.{is_full};
+ghost use Rattle.gateway_theory.specs.Conn.{is_full};
 ghost use Rattle.gateway_theory.specs.Step.{has_out};
 ghost use Rattle.gateway_theory.specs.Store.{IsFound, given_up, waiting};
 ghost use Rattle.gateway_theory.specs.Values.{call_at};

@@ -16,8 +16,7 @@ use Rattle.gateway_model.specs.Queue.{queued_entries}
 use Rattle.gateway_model.specs.Starts.{Placed, occurrences}
 use Rattle.gateway_theory.specs.Replies.{ReplyValue}
 use Rattle.gateway_theory.specs.Served.{after_reply}
-use Rattle.gateway_theory.specs.lemmas.LaterOpenings.{same_openings}
-use Rattle.gateway_theory.specs.lemmas.OneEvent.{born_hung, born_open, born_stream, deaf_stream, kept_open, shut_deaf, shut_hung, stays_shut}
+use Rattle.gateway_theory.specs.lemmas.OneEvent.{same_openings, born_hung, born_open, born_stream, deaf_stream, kept_open, shut_deaf, shut_hung, stays_shut}
 use Rattle.gateway_theory.specs.lemmas.ServedOpens.{grown, occurs_before, succeeds_more, unopened_shut as unborn_open}
 use Rattle.gateway_loop.specs.Clients.{Follows, IsStreamOf, Leads}
 use Rattle.gateway_theory.specs.lemmas.CutLemmas.{connections_grow}

@@ -1,7 +1,7 @@
 -- What comes on a connection is what the whole of its stream is cut into.
 use Rattle.gateway_run.proofs.Names.{◌≡◌, ℕ, zero, suc, Bool, true, false, List, [], ◌∷◌, ◌++◌, length, map, Option, None, Some, refl, sym, ap, ◌∙◌, subst, arith, append_assoc, append-nil, flat_map, ◌==◌, ◌||◌, if◌then◌else◌, is_some, option_map, option_to_list, slice_get, MatchBool, option_or, eq-eqb, eqb-true, ne_eqb, append_cancel_left, map-append, HttpRequest, StreamEnd, Open, RefusedBy, Closed, Requests, PlanRecord, Before, Gains, Occurs, OccursAt, once, onto, piece_of, refusal_gained, requests_gained, stream, Event, Piece, Coming, Comes, Occurrence, call_id, coming_on, arrivals, marked, is_broken, breaks, came, Placed, occurrences, brought_by, came_on, or_none, nat_tests}
 use Rattle.http_pieces.specs.declared.refusal.Refusal.{Refusal}
-use Rattle.gateway_theory.specs.lemmas.Whole.{none_breaks}
+use Rattle.gateway_theory.specs.lemmas.EventLemmas.{none_breaks}
 use Rattle.gateway_theory.specs.lemmas.ServedLemmas.{text_still as stream_same}
 
 -- what is known of requests

@@ -1,9 +1,16 @@
 -- The slots of a connection, each for the reply of one request.
-use Rattle.std.specs.Prelude.{◌≡◌, ℕ, ◌+◌, if◌then◌else◌, is_none, List, Option, Some, option_map, slice_get, slice_set}
+use Rattle.std.specs.List.{count_by}
+use Rattle.std.specs.Prelude.{◌≡◌, ℕ, ◌+◌, Bool, if◌then◌else◌, nat_le, is_none, List, Option, None, Some, option_map, slice_get, slice_index_or, slice_set}
 use Rattle.gateway_model.specs.declared.entry.ReplyEntry.{ReplyEntry}
-use Rattle.gateway_model.specs.Past.{call_id}
-use Rattle.gateway_theory.specs.Machine.{slot_at}
+use Rattle.gateway_model.specs.Past.{call_id, most_calls}
 use Rattle.gateway_theory.specs.Replies.{ReplyValue}
+
+abbrev pub slot_at : ℕ → List (Option ReplyEntry) → Option ReplyEntry
+slot_at j slots = slice_index_or slots j None
+
+-- a call too many
+abbrev pub is_full : List (Option ReplyEntry) → Bool
+is_full slots = nat_le most_calls (count_by is_none slots)
 
 abbrev pub entry_in : Option ReplyValue → Option ReplyEntry
 entry_in slot = option_map (λ r. r.entry) slot

@@ -1,16 +1,16 @@
 -- A connection as a value of its own: what an occurrence makes of it, and what it stands for.
-use Rattle.std.specs.Prelude.{◌≡◌, ⊤, ℕ, suc, ◌+◌, max, Bool, false, ◌&&◌, ◌||◌, not, if◌then◌else◌, ◌==◌, List, [], ◌∷◌, ◌++◌, length, map, Option}
+use Rattle.std.specs.Prelude.{◌≡◌, ⊤, ℕ, suc, ◌+◌, max, Bool, false, ◌&&◌, ◌||◌, not, if◌then◌else◌, ◌==◌, List, [], ◌∷◌, ◌++◌, length, map, Option, Some}
 use Rattle.std.specs.Option.{option_or}
 use Rattle.gateway_model.specs.declared.entry.ReplyEntry.{ReplyEntry}
 use Rattle.gateway_model.specs.Job.{JobValue}
 use Rattle.gateway_model.specs.Occurrence.{Break, Closing, Comes, Coming, Occurrence, Result}
 use Rattle.gateway_model.specs.Own.{is_visible, own}
-use Rattle.gateway_model.specs.Past.{breaks, call_id, is_broken, is_drain, is_drained, marked, is_shut, moment_of, now}
+use Rattle.gateway_model.specs.Past.{Past, arrivals, breaks, call_id, is_broken, is_drain, is_drained, marked, is_shut, moment_of, now}
+use Rattle.gateway_model.specs.Queue.{entry}
 use Rattle.gateway_model.specs.Starts.{jobs}
 use Rattle.gateway_theory.specs.Begins.{arrive}
 use Rattle.gateway_theory.specs.LiveStands.{CallStands}
-use Rattle.gateway_theory.specs.Machine.{ConnState, is_full}
-use Rattle.gateway_theory.specs.Standing.{ConnStands}
+use Rattle.gateway_theory.specs.Conn.{is_full, slot_at}
 use Rattle.gateway_theory.specs.Step.{Step}
 use Rattle.gateway_theory.specs.Values.{gone, ConnectionValue}
 use Rattle.gateway_theory.specs.Step as one_call
@@ -118,8 +118,10 @@ pub record NowStands (n : Now) (os : List Occurrence) : Type 0 where
   pub moment_is : n.moment ≡ now (marked os)
   pub drained_is : n.drained ≡ is_drained (marked os)
 
-abbrev pub state_of : ConnectionValue → ConnState
-state_of v = record { taken = v.taken; slots = v.slots; closed = is_shut_value v }
+-- all slots of a connection: each has its request's entry, once that is decided
+pub record SlotsStand (c : ℕ) (slots : List (Option ReplyEntry)) (past : Past) : Type 0 where
+  pub size_is : length slots ≡ arrivals c past
+  pub each : (k : ℕ) → slot_at k slots ≡ entry (call_id c k) past
 
 -- those break, the last first
 abbrev pub breaks_of : List ℕ → List Occurrence
@@ -128,7 +130,8 @@ breaks_of cs = map Break cs
 -- the connection after what has occurred of it, where these replies were taken: its slots, until it is closed, and its calls are those of the
 -- definitions
 pub record ConnectionStands (v : ConnectionValue) (taken : List ReplyEntry) (os : List Occurrence) : Type 0 where
-  pub conn : v.closed ≡ false → ConnStands v.number (state_of v) taken (marked os)
+  pub taken_is : v.closed ≡ false → v.taken ≡ length taken
+  pub slots_stand : v.closed ≡ false → SlotsStand v.number (map Some taken ++ v.slots) (marked os)
   pub calls : (k : ℕ) → CallStands (call_id v.number k) (v.calls k) (marked os)
   pub broken_is : v.broken ≡ (not v.closed && is_broken v.number (marked os))
   pub shut_is : is_shut_value v ≡ is_shut v.number (marked os)

@@ -14,10 +14,9 @@ use Rattle.gateway_model.specs.declared.id.CallId.{CallId}
 use Rattle.gateway_model.specs.declared.seen.Seen.TheVariants.{Unknown}
 use Rattle.gateway_theory.specs.Begins.{arrive}
 use Rattle.gateway_theory.specs.Breaks.{seen_by}
-use Rattle.gateway_theory.specs.Conn.{fill_at}
+use Rattle.gateway_theory.specs.Conn.{fill_at, is_full, slot_at}
 use Rattle.gateway_theory.specs.Ends.{AreApart, ended_call, ended_kept}
 use Rattle.gateway_theory.specs.Values.{KeptValue, Live, call_at, HeldConnection, held_connection}
-use Rattle.gateway_theory.specs.Machine.{is_full, slot_at}
 use Rattle.gateway_theory.specs.Replies.{ReplyValue}
 use Rattle.gateway_theory.specs.Results.{back_kept, is_spent, stepped_kept}
 use Rattle.gateway_theory.specs.Step.{Step, has_out, result_on}

@@ -5,8 +5,6 @@ pub mod Arrivals
 pub mod Step
 pub mod LiveStands
 pub mod Begins
-pub mod Machine
-pub mod Standing
 pub mod Starting
 pub mod Breaks
 pub mod Values

@@ -26,10 +26,9 @@ pub use Rattle.gateway_model.specs.declared.id.CallId.{CallId}
 pub use Rattle.gateway_replies.specs.Contexts.{ContextsValue, is_life, contexts_value, ends_of, without, KeepsOthers, peer, TimedBranch, LifeValue, LivesApart, ending_life, by_deadline, PeerValue, by_drain, told, Ended, is_peer, others, on_branches, with_branches, by_hang_up, is_over, ending_at, closed, ends_life, expires_life, has_ended, event_of, begun, life_by, finished, ended_peer, ends_peer, opened, has_due}
 pub use Rattle.gateway_replies.specs.Hooks.{HookedContexts, stock_in, TakesAtMostOne, KeepsHooks, StocksStay, BringsHooks, DropsHooks, Stocks}
 pub use Rattle.gateway_theory.specs.Begins.{first_out, begun_live, ends_first, first_ones, begins, first_jobs, first_deadlines}
-pub use Rattle.gateway_theory.specs.Conn.{entry_in, AreInPlace, fill_at}
+pub use Rattle.gateway_theory.specs.Conn.{entry_in, AreInPlace, fill_at, slot_at, is_full}
 pub use Rattle.gateway_theory.specs.Ends.{AreApart, ended_kept, ended_call, reply_for, caused, kept_after}
 pub use Rattle.gateway_theory.specs.Held.{Holds, next_held, broken_held, result_in, replied, hears, coming_of, hung_held, ended_held, Forgets, back_held, forgotten, lost_held, stays, stepped_held, TakesReply, ReadsOn, arriving_in, read_held, unknown, EndsIn, entered_held, HasBrought, MayGive, broke, came, read, unread, TakesStarved, late, lost, settled, settled_held, closed_held, dropped}
-pub use Rattle.gateway_theory.specs.Machine.{slot_at, is_full}
 pub use Rattle.gateway_theory.specs.Replies.{ReplyValue, reply_with}
 pub use Rattle.gateway_theory.specs.Results.{stepped_kept, back_kept, is_spent}
 pub use Rattle.gateway_theory.specs.Step.{deadlines_in, Step, has_out, result_on, step_to, deadlines_next, next_out, rest_of, first_of, is_last_answer, ended_by}

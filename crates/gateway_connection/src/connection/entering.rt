@@ -6,7 +6,7 @@ ghost use Rattle.gateway_model.specs.Occurrence.{Coming};
 ghost use Rattle.gateway_replies.specs.Contexts.{KeepsOthers};
 ghost use Rattle.gateway_replies.specs.Hooks.{TakesAtMostOne};
 ghost use Rattle.gateway_theory.specs.Begins.{begins};
-ghost use Rattle.gateway_theory.specs.Machine.{is_full};
+ghost use Rattle.gateway_theory.specs.Conn.{is_full};
 ghost use Rattle.gateway_theory.specs.Step.{step_to};
 ghost use Rattle.gateway_theory.specs.Values.{gone};
 ghost use Rattle.gateway_theory.specs.Task.{job_at};

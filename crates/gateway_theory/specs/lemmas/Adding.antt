@@ -1,7 +1,6 @@
 -- How one event adds to what was lived, perhaps with breaks.
-use Rattle.std.specs.Prelude.{◌≡◌, ◌≤◌, ◌∷◌, ◌++◌, ◌+◌, if◌then◌else◌}
-use Rattle.gateway_theory.specs.lemmas.Names.{ℕ, suc, true, false, List, [], length, refl, sym, ap, ◌∙◌, subst, arith, append_assoc, nat_tests, ⊤, not, reverse, map-append, reverse-append, filter-append, BreakAsTheyMay, CanBreakAt, InOrder, MayOccur, by_events, can_break, Before, onto, Occurs, OccursAt, Occurrence, Opening, Comes, HangUp, Moment, Result, Drain, Closing, Break, is_break, without_breaks, is_broken, marked, Placed, occurrences, Event, breaks_of, AllStand, at_place, Adds, CoreValue, HasConns, Lives, Served, then_came, History, after_event, calls_arrived, calls_in}
-use Rattle.gateway_theory.specs.lemmas.LivedSteps.{listed}
+use Rattle.std.specs.Prelude.{◌≡◌, ◌≤◌, ◌∷◌, ◌++◌, ◌+◌, if◌then◌else◌, ◌==◌}
+use Rattle.gateway_theory.specs.lemmas.Names.{ℕ, Bool, list_any, suc, true, false, List, [], length, refl, sym, ap, ◌∙◌, subst, arith, append_assoc, nat_tests, ⊤, not, reverse, map-append, reverse-append, filter-append, BreakAsTheyMay, CanBreakAt, InOrder, MayOccur, by_events, can_break, Before, onto, Occurs, OccursAt, Occurrence, Opening, Comes, HangUp, Moment, Result, Drain, Closing, Break, is_break, without_breaks, is_broken, marked, Placed, occurrences, Event, breaks_of, AllStand, at_place, Adds, CoreValue, HasConns, Lives, Served, then_came, History, after_event, calls_arrived, calls_in}
 
 -- ---- which may break
 
@@ -71,7 +70,7 @@ order_at n (o ∷ newer) lived h = (omega arith, order_at n newer lived h)
 may_later : (opened later : List ℕ) (e : Event) (es : Before)
     → ((c place : ℕ) (p : _) → CanBreakAt c place opened es p → CanBreakAt c place later (e ∷ es) p)
     → (o : Occurrence) (place : ℕ) (lived : List Placed) → MayOccur opened es place o (marked (occurrences lived)) → MayOccur later (e ∷ es) place o (marked (occurrences lived))
-may_later opened later e es h4 o place lived h8 = grind (arith, nat_tests)
+may_later opened later e es each o place lived fact = grind (arith, nat_tests)
 
 pub breaks_later : (opened later : List ℕ) (e : Event) (es : Before)
     → ((c place : ℕ) (p : _) → CanBreakAt c place opened es p → CanBreakAt c place later (e ∷ es) p)
@@ -111,7 +110,7 @@ breaks_now opened e es (o ∷ newer) lived a b =
     (may_now opened e es o (newer ++ occurrences lived) (at_place (length es) newer ++ lived) (occurrences_at (length es) newer lived) a.0, breaks_now opened e es newer lived a.1 b)
 
 no_break : (P : ℕ → List Occurrence → Type 0) (o : Occurrence) (os : List Occurrence) → is_break o ≡ false → BreakSo P o os
-no_break P o os h3 = grind (arith, nat_tests)
+no_break P o os is = grind (arith, nat_tests)
 
 module _ (P : ℕ → List Occurrence → Type 0) (S : List Occurrence → Type 0) (os : List Occurrence) where
   -- connections break, and this occurs behind it
@@ -129,12 +128,15 @@ module _ (P : ℕ → List Occurrence → Type 0) (S : List Occurrence → Type 
 
 -- ---- which break
 
--- no number is there twice
-abbrev pub NoneTwice : List ℕ → Type 0
-NoneTwice [] = ⊤
-NoneTwice (n ∷ ns) = (listed ns n ≡ false) × NoneTwice ns
+abbrev pub listed : List ℕ → ℕ → Bool
+listed cs c = list_any (λ d. d == c) cs
 
-pub breaks_each : (P : ℕ → List Occurrence → Type 0) (os : List Occurrence) (cs : List ℕ) → NoneTwice cs
+-- no number is there twice
+abbrev pub AreOnce : List ℕ → Type 0
+AreOnce [] = ⊤
+AreOnce (n ∷ ns) = (listed ns n ≡ false) × AreOnce ns
+
+pub breaks_each : (P : ℕ → List Occurrence → Type 0) (os : List Occurrence) (cs : List ℕ) → AreOnce cs
     → ((c : ℕ) (ds : List ℕ) → listed cs c ≡ true → listed ds c ≡ false → P c (breaks_of ds ++ os)) → AreBreaks P (breaks_of cs) os
 breaks_each P os [] once f = tt
 breaks_each P os (c ∷ cs) once f = grind (arith, breaks_each P os cs once.1)

@@ -5,7 +5,7 @@ use Rattle.gateway_theory.specs.lemmas.Deadlines.{branch_deadline, deadlines_fir
 use Rattle.gateway_model.specs.declared.entry.ReplyEntry.TheVariants.{Refused as Refusing, Judged as Judging}
 use Rattle.gateway_theory.specs.lemmas.LimitLemmas.{unanswered, unbegun}
 use Rattle.gateway_theory.specs.lemmas.Frame.{unbroken}
-use Rattle.gateway_theory.specs.lemmas.Unborn.{Unborn, unborn}
+use Rattle.gateway_theory.specs.lemmas.PastLemmas.{Unborn, unborn}
 use Rattle.gateway_theory.specs.Step.{ended}
 use Rattle.gateway_theory.specs.lemmas.StepLemmas.{deadlines_now, call_entry_is, decided_shut, started_live}
 
@@ -130,7 +130,7 @@ begun id x os a n asks goes by_call =
 
     first_started : (moment : ℕ) (id : CallId) (a : ArrivedCall) (s t : ℕ) → s ≡ 0 → t ≡ first_ones a
         → map (λ j. job_of id j a moment) (range_with_len s (t - s)) ≡ first_jobs moment id a
-    first_started moment id a s t h5 h6 = grind (arith, nat_tests)
+    first_started moment id a s t is also = grind (arith, nat_tests)
 
 ends_decide : (past : Past) (a : ArrivedCall) (e : CallEvent) (k n : ℕ) → ends_at_arrival past a ≡ Some e → decides k n e ≡ true
 ends_decide past a e k n h = grind arith

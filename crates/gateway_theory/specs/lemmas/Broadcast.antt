@@ -1,7 +1,8 @@
 -- One on which nothing comes stays, and what comes on all at once.
 use Rattle.std.specs.Prelude.{◌≡◌, ◌∷◌, ◌++◌, ◌==◌, if◌then◌else◌, ◌||◌}
-use Rattle.gateway_theory.specs.lemmas.Names.{ℕ, suc, Bool, true, false, List, [], Option, None, refl, ap, ◌∙◌, subst, arith, nat_tests, ⊤, option_or, ReplyEntry, Occurrence, HangUp, Moment, Drain, Break, kept, ConnectionValue, Now, call_step, filled, went, AllStand, all_after, breaks_of, now_after, now_of, list_any, JobValue}
+use Rattle.gateway_theory.specs.lemmas.Names.{ℕ, suc, Bool, true, false, List, [], Option, None, refl, ap, ◌∙◌, subst, arith, nat_tests, option_or, ReplyEntry, Occurrence, HangUp, Moment, Drain, Break, kept, ConnectionValue, Now, call_step, filled, went, AllStand, all_after, breaks_of, now_after, now_of, JobValue}
 use Rattle.std.proofs.Common.{append-nil}
+use Rattle.gateway_theory.specs.lemmas.Adding.{AreOnce, listed}
 use Rattle.gateway_theory.specs.lemmas.Cases.{or_none}
 use Rattle.gateway_theory.specs.lemmas.ConnectionSteps.{all_step}
 
@@ -12,7 +13,7 @@ pub data Ends : Occurrence → Type 0 where
   by_drain : Ends Drain
 
 call_idle : (n : Now) (o : Occurrence) (v : ConnectionValue) → Ends o → (k : ℕ) → (v.calls k).live ≡ None → call_step n o v k ≡ kept (v.calls k)
-call_idle n o v h3 k h5 = grind (arith, nat_tests)
+call_idle n o v fact k is = grind (arith, nat_tests)
 
 pub filled_none : (reply : ℕ → Option ReplyEntry) (k : ℕ) (slots : List (Option ReplyEntry)) → ((j : ℕ) → reply j ≡ None) → filled reply k slots ≡ slots
 filled_none reply k [] none = refl
@@ -28,14 +29,6 @@ broken_dead n v k = grind arith
 -- so one that breaks at a moment, a hang-up or the drain is as if it had broken before
 pub break_first : (n : Now) (o : Occurrence) (v : ConnectionValue) → Ends o → went n o (went n (Break v.number) v) ≡ went n (Break v.number) v
 break_first n o v ends = idle_stays n o (went n (Break v.number) v) ends (broken_dead n v)
-
-abbrev pub listed : List ℕ → ℕ → Bool
-listed cs c = list_any (λ d. d == c) cs
-
--- none is listed twice
-abbrev pub AreOnce : List ℕ → Type 0
-AreOnce [] = ⊤
-AreOnce (c ∷ cs) = (listed cs c ≡ false) × AreOnce cs
 
 -- those break, the last first
 abbrev pub all_broken : Now → List ℕ → (ℕ → ConnectionValue) → ℕ → ConnectionValue
@@ -65,7 +58,7 @@ module _ (n : Now) (taken : ℕ → List ReplyEntry) (handed waiting : List JobV
 
   broken_by : (c : ℕ) (cs : List ℕ) (d : ℕ) → AreOnce (c ∷ cs) → (b : Bool) → (c == d) ≡ b → all_broken n cs conns d ≡ (if listed cs d then went n (Break d) (conns d) else conns d)
       → (if b then went n (Break c) (all_broken n cs conns d) else all_broken n cs conns d) ≡ (if b || listed cs d then went n (Break d) (conns d) else conns d)
-  broken_by c cs d h3 b h5 h6 = grind (arith, nat_tests)
+  broken_by c cs d fact b is also = grind (arith, nat_tests)
 
   -- each of them broke, and no other
   pub broken_are : (cs : List ℕ) → AreOnce cs → (d : ℕ) → all_broken n cs conns d ≡ (if listed cs d then went n (Break d) (conns d) else conns d)

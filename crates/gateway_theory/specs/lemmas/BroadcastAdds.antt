@@ -1,12 +1,12 @@
 -- What a moment, the drain and a hang-up add.
 use Rattle.std.specs.Prelude.{◌≡◌, ◌<◌, ◌∷◌, ◌++◌, ◌==◌, ◌&&◌, ◌||◌, if◌then◌else◌}
-use Rattle.gateway_theory.specs.lemmas.Names.{ℕ, zero, suc, Bool, true, false, List, [], Option, None, Some, refl, sym, ap, ◌∙◌, arith, subst, nat_tests, is_some, nat_lt, not, ⊤, eq-eqb, eqb-true, le-ltb, lt-ltb, History, Break, Drain, Moment, Occurrence, Step, moment_after, ConnectionValue, is_broken_value, is_open_value, GatewayValue, conn_of, connection, value_of, HeldConnection, connection_of, Trigger, Drained, Reached, call_step, is_shut_value, now_after, now_of, went, AllStand, ConnectionStands, Adds, CoreValue, HasConns, StreamStands, is_heard, core_of, is_broken_conn, stream_of, CallsEnd, broke, broken_held, ended, ended_held, stream_in, HangsUp, hears, hung, hung_held, unnoticed, IsServing, Broadcast, Drains, MayEnd, Reaches, HangsUpAt, Moves, absent, there, append-nil, hung_up, listens, once, own, occurrences, ReplyEntry, StepFault}
+use Rattle.gateway_theory.specs.lemmas.Names.{ℕ, zero, suc, Bool, true, false, List, [], Option, None, Some, refl, sym, ap, ◌∙◌, arith, subst, nat_tests, is_some, nat_lt, not, ⊤, eq-eqb, eqb-true, le-ltb, lt-ltb, History, Break, Drain, Moment, Occurrence, Step, moment_after, ConnectionValue, is_broken_value, is_open_value, GatewayValue, conn_of, connection, value_of, HeldConnection, connection_of, Trigger, Drained, Reached, call_step, is_shut_value, now_after, now_of, went, AllStand, ConnectionStands, Adds, CoreValue, HasConns, StreamStands, is_heard, core_of, is_broken_conn, stream_of, CallsEnd, broke, broken_held, ended, ended_held, stream_in, HangsUp, hears, hung, hung_held, unnoticed, IsServing, Broadcast, Drains, MayEnd, Reaches, HangsUpAt, Moves, absent, there, append-nil, hung_up, listens, once, own, occurrences, ReplyEntry, StepFault, Event, and_parts}
 use Rattle.std.proofs.Common.{Result}
-use Rattle.gateway_theory.specs.lemmas.Broadcast.{AreOnce, listed, Ends, by_drain, by_moment, idle_stays, all_broken, break_first, by_hang_up}
+use Rattle.gateway_theory.specs.lemmas.Broadcast.{Ends, by_drain, by_moment, idle_stays, all_broken, break_first, by_hang_up}
 use Rattle.gateway_theory.specs.lemmas.Events.{broadcast, drain_adds, moment_adds, BreakBy, came, hang_up_adds, hang_up_may}
 use Rattle.gateway_theory.specs.lemmas.Moving.{Fades, fades_adds, same, Became, became_fades}
 use Rattle.gateway_theory.specs.lemmas.HeldValues.{EndsAt, at_drain, at_moment, broken_value, ended_drain, ended_moment, ended_hang_up}
-use Rattle.gateway_theory.specs.lemmas.Adding.{MayBreak, Newer, none_newer, one_newer, StandsNow, adds_event, none_more}
+use Rattle.gateway_theory.specs.lemmas.Adding.{AreOnce, listed, MayBreak, Newer, none_newer, one_newer, StandsNow, adds_event, none_more}
 use Rattle.gateway_theory.specs.lemmas.Cases.{or_true}
 use Rattle.gateway_theory.specs.lemmas.ServedLemmas.{hung_still, open_still, text_still, hung_if, stays_itself, stream_stays}
 use Rattle.gateway_theory.specs.lemmas.ConnectionSteps.{all_step}
@@ -29,9 +29,6 @@ listed_where p (suc n) c = grind (arith, listed_where p n c)
 once_where : (p : ℕ → Bool) (n : ℕ) → AreOnce (below_where p n)
 once_where p zero = tt
 once_where p (suc n) = grind (arith, nat_tests, once_where p n, AreOnce, listed_where, le-ltb)
-
-and_parts : (a b : Bool) → (a && b) ≡ true → (a ≡ true) × (b ≡ true)
-and_parts a b h2 = grind (arith, nat_tests)
 
 -- ---- each connection
 
@@ -92,7 +89,7 @@ module _ (t : Trigger) (o : Occurrence) (v w : GatewayValue) (breaks : Bool) (b 
   break_by c on = by (went_each c)
     where
       by : Went c → (is_shut_value (connection c v) ≡ false) × ((r : ℕ) × (is_some (call_step (core_of v).now o (connection c v) r).reply ≡ true))
-      by h0 = grind (arith, nat_tests, and_parts, newly, listed_where)
+      by fact = grind (arith, nat_tests, and_parts, newly, listed_where)
 
   pub broadcast_fades : w.plans ≡ v.plans → (core_of w).now ≡ now_after o (core_of v).now → w.begun ≡ v.begun → w.jobs ≡ v.jobs → Fades (broadcast o these (core_of v)) (core_of w)
   broadcast_fades plans_are now_is begun_is jobs_are = record {
@@ -106,35 +103,30 @@ module _ (t : Trigger) (o : Occurrence) (v w : GatewayValue) (breaks : Bool) (b 
   }
     where
       each : (c : ℕ) → Went c → connection c w ≡ (if listed these c then went (core_of v).now (Break c) (connection c v) else went (core_of v).now o (connection c v))
-      each c h1 = grind (arith, nat_tests, listed, these, listed_where, newly, lt-ltb)
+      each c fact = grind (arith, nat_tests, listed, these, listed_where, newly, lt-ltb)
 
       stream : (c : ℕ) (x : Option HeldConnection) → conn_of c v ≡ x → MayEnd t x (conn_of c w) → stream_of (conn_of c w) ≡ stream_of (conn_of c v)
-      stream c x h2 h3 = grind (arith, nat_tests)
+      stream c x is fact = grind (arith, nat_tests)
+
+  -- what the event adds where those break, it adds
+  pub broadcast_adds : w.plans ≡ v.plans → (core_of w).now ≡ now_after o (core_of v).now → w.begun ≡ v.begun → w.jobs ≡ v.jobs → (e : Event) (h : History)
+      → ((cs : List ℕ) → AreOnce cs → BreakBy (core_of v).now (core_of v).conns o cs → Adds h.opened e h (core_of v) (broadcast o cs (core_of v))) → Adds h.opened e h (core_of v) (core_of w)
+  broadcast_adds plans_are now_is begun_is jobs_are e h adds =
+      fades_adds (broadcast o these (core_of v)) (core_of w) (broadcast_fades plans_are now_is begun_is jobs_are) h.opened e h (core_of v) (adds these (once_where newly v.opened) break_by)
 
 -- ---- the calls of the gateway
 
 pub reaches_adds : (m : ℕ) (v w : GatewayValue) (breaks : Bool) (h : History) → Reaches m v w breaks → IsServing v → Adds h.opened (event.Moment m) h (core_of v) (core_of w)
 reaches_adds m v w breaks h r s =
-    let opened_is : w.opened ≡ v.opened = ap (λ (x : GatewayValue). x.opened) r.rest in
-    let t = Reached (moment_after v.moment m) in
-    let cs = these t (Moment m) v w breaks r.ends opened_is s (by_moment m) (λ k. at_moment (core_of v).now k m) (λ k. ended_moment (core_of v).now k m) in
-    fades_adds (broadcast (Moment m) cs (core_of v)) (core_of w)
-    (broadcast_fades t (Moment m) v w breaks r.ends opened_is s (by_moment m) (λ k. at_moment (core_of v).now k m) (λ k. ended_moment (core_of v).now k m)
-    (ap (λ (x : GatewayValue). x.plans) r.rest) (ap (λ (x : GatewayValue). now_of x.moment x.drained) r.rest) (ap (λ (x : GatewayValue). x.begun) r.rest) (ap (λ (x : GatewayValue). x.jobs) r.rest))
-    h.opened (event.Moment m) h (core_of v)
-    (moment_adds h (core_of v) cs (once_where (newly t (Moment m) v w breaks r.ends opened_is s (by_moment m) (λ k. at_moment (core_of v).now k m) (λ k. ended_moment (core_of v).now k m)) v.opened) m
-    (break_by t (Moment m) v w breaks r.ends opened_is s (by_moment m) (λ k. at_moment (core_of v).now k m) (λ k. ended_moment (core_of v).now k m)))
+    broadcast_adds (Reached (moment_after v.moment m)) (Moment m) v w breaks r.ends (ap (λ (x : GatewayValue). x.opened) r.rest) s (by_moment m) (λ k. at_moment (core_of v).now k m) (λ k. ended_moment (core_of v).now k m)
+    (ap (λ (x : GatewayValue). x.plans) r.rest) (ap (λ (x : GatewayValue). now_of x.moment x.drained) r.rest) (ap (λ (x : GatewayValue). x.begun) r.rest) (ap (λ (x : GatewayValue). x.jobs) r.rest)
+    (event.Moment m) h (λ cs once by. moment_adds h (core_of v) cs once m by)
 
 pub drains_adds : (v w : GatewayValue) (breaks : Bool) (h : History) → Drains v w breaks → IsServing v → Adds h.opened event.Drain h (core_of v) (core_of w)
 drains_adds v w breaks h r s =
-    let opened_is : w.opened ≡ v.opened = ap (λ (x : GatewayValue). x.opened) r.rest in
-    let cs = these Drained Drain v w breaks r.ends opened_is s by_drain (λ k. at_drain (core_of v).now k) (λ k. ended_drain (core_of v).now k) in
-    fades_adds (broadcast Drain cs (core_of v)) (core_of w)
-    (broadcast_fades Drained Drain v w breaks r.ends opened_is s by_drain (λ k. at_drain (core_of v).now k) (λ k. ended_drain (core_of v).now k)
-    (ap (λ (x : GatewayValue). x.plans) r.rest) (ap (λ (x : GatewayValue). now_of x.moment x.drained) r.rest ∙ ap (λ n. now_of n true) (omega arith)) (ap (λ (x : GatewayValue). x.begun) r.rest) (ap (λ (x : GatewayValue). x.jobs) r.rest))
-    h.opened event.Drain h (core_of v)
-    (drain_adds h (core_of v) cs (once_where (newly Drained Drain v w breaks r.ends opened_is s by_drain (λ k. at_drain (core_of v).now k) (λ k. ended_drain (core_of v).now k)) v.opened)
-    (break_by Drained Drain v w breaks r.ends opened_is s by_drain (λ k. at_drain (core_of v).now k) (λ k. ended_drain (core_of v).now k)))
+    broadcast_adds Drained Drain v w breaks r.ends (ap (λ (x : GatewayValue). x.opened) r.rest) s by_drain (λ k. at_drain (core_of v).now k) (λ k. ended_drain (core_of v).now k)
+    (ap (λ (x : GatewayValue). x.plans) r.rest) (ap (λ (x : GatewayValue). now_of x.moment x.drained) r.rest ∙ ap (λ n. now_of n true) (omega arith)) (ap (λ (x : GatewayValue). x.begun) r.rest) (ap (λ (x : GatewayValue). x.jobs) r.rest)
+    event.Drain h (λ cs once by. drain_adds h (core_of v) cs once by)
 
 -- ---- one that nobody hears
 
@@ -150,7 +142,7 @@ module _ (h : History) (v : CoreValue) (n : ℕ) (deaf : (is_open_value v.opened
   each_deaf : HasConns v h.opened h.events → (c : ℕ) (b : Bool) → (n == c) ≡ b → (x : Bool) → listens h.opened n h.events ≡ x → StreamStands h.opened (event.HangUp n ∷ h.events) v.opened c (v.conns c) (v.streams c)
   each_deaf hc c false ne x on = stream_stays h.opened h.opened h.events (event.HangUp n ∷ h.events) v.opened v.opened c (v.conns c) (v.conns c) (v.streams c) (stays_itself (v.conns c)) (hc.each c) refl
       (open_still h.opened c (event.HangUp n) h.events refl refl) (hung_still h.opened c (event.HangUp n) h.events ne) (text_still h.opened c (event.HangUp n) h.events refl)
-  each_deaf hc c true at false off = grind arith
+  each_deaf hc c true at false off = search arith
   each_deaf hc c true at true on = grind arith
 
   -- it changes nothing
@@ -188,9 +180,6 @@ heard_there c v k s k_is =
     ap (λ o. is_open_value v.opened c (value_of v.opened c o) && is_heard (value_of v.opened c o) (stream_of o)) k_is
     ∙ ap (λ b. (b && not k.closed) && (not k.broken && not k.hung_up)) (lt-ltb c v.opened (s.each c k k_is).born)
 
-pub hears_both : (a b : Bool) → (a && b) ≡ true → (a ≡ true) × (b ≡ true)
-hears_both a b h2 = grind (arith, nat_tests)
-
 -- nothing is heard of one that is not kept
 pub deaf_absent : (c : ℕ) (v : GatewayValue) → conn_of c v ≡ None → (is_open_value v.opened c (connection c v) && is_heard (connection c v) (stream_of (conn_of c v))) ≡ false
 deaf_absent c v none = ap (λ b. b && is_heard (connection c v) (stream_of (conn_of c v))) (shut_absent c v none)
@@ -203,7 +192,7 @@ module _ (number : ℕ) (v w : GatewayValue) (h : History) (s : IsServing v) (k 
   value_is = there_value number v k k_is
 
   parts : (is_open_value v.opened number (connection number v) ≡ true) × (is_heard (connection number v) (stream_of (conn_of number v)) ≡ true)
-  parts = hears_both _ _ (heard_there number v k s k_is ∙ on)
+  parts = and_parts _ _ (heard_there number v k s k_is ∙ on)
 
   became : (cs : List ℕ) → went (core_of v).now (occurs.HangUp number) (all_broken (core_of v).now cs (core_of v).conns number) ≡ connection_of l
       → ((d : ℕ) → (number == d) ≡ false → all_broken (core_of v).now cs (core_of v).conns d ≡ connection d v) → stream_in l ≡ record (stream_in k) { hung_up = true }

@@ -1,6 +1,6 @@
 -- What openings, closings and results add to what was lived.
 use Rattle.std.specs.Prelude.{◌≡◌, ◌+◌, ◌∷◌, ◌++◌, ◌==◌, if◌then◌else◌}
-use Rattle.gateway_theory.specs.lemmas.Names.{ℕ, Bool, true, false, List, [], length, Option, None, Some, refl, sym, ap, ◌∙◌, subst, arith, nat_tests, is_none, is_some, nat_lt, eq-eqb, eqb-true, le-ltb, append-nil, HasRead, Outcome, History, JobValue, Break, Closing, Occurrence, call_id, Event, CallId, is_spent, Step, has_out, kept, CallState, Live, call_at, ConnectionValue, GatewayValue, conn_of, connection, HeldConnection, connection_of, IsFound, kept_at, Took, Now, call_step, forgets, now_of, went, Adds, core_of, stream_of, Forgets, Holds, TakesResult, TakesStarved, closed_held, forgotten, late, left_of, lost, lost_held, new_reader, result_in, settled, settled_held, stays, unknown, IsServing, Closes, Moves, Opens, Results, Starves, absent, shut, there}
+use Rattle.gateway_theory.specs.lemmas.Names.{ℕ, Bool, true, false, List, [], length, Option, None, Some, refl, sym, ap, ◌∙◌, subst, arith, nat_tests, is_some, nat_lt, eq-eqb, eqb-true, le-ltb, append-nil, HasRead, Outcome, History, JobValue, Break, Closing, Occurrence, call_id, Event, CallId, is_spent, Step, has_out, kept, CallState, Live, call_at, ConnectionValue, GatewayValue, conn_of, connection, HeldConnection, connection_of, IsFound, kept_at, Took, Now, call_step, forgets, now_of, went, Adds, core_of, stream_of, Forgets, Holds, TakesResult, closed_held, forgotten, left_of, lost, lost_held, new_reader, result_in, settled, settled_held, stays, unknown, IsServing, Closes, Moves, Opens, Results, absent, shut, there}
 use Rattle.gateway_theory.specs.lemmas.StoreLemmas.{call_found}
 use Rattle.gateway_theory.specs.Steps.{closes}
 use Rattle.gateway_theory.specs.lemmas.Broadcast.{all_broken, filled_none}
@@ -8,9 +8,9 @@ use Rattle.gateway_theory.specs.lemmas.Conns.{shut_absent, shut_there, open_ther
 use Rattle.gateway_theory.specs.lemmas.Events.{MayAll, came, closing_adds, counted_may, result_adds, unclosed_adds}
 use Rattle.gateway_theory.specs.lemmas.Moving.{Fades, FadesTo, call_fades, fades_adds, same, Became, left_adds, none_out, numbers_are}
 use Rattle.gateway_theory.specs.lemmas.HeldSteps.{Like, like_lost, like_settled, holds_closed}
-use Rattle.gateway_theory.specs.lemmas.HeldValues.{closed_value, forgotten_value, late_settles, late_step, lost_jobs, lost_value, same_value, settled_jobs, settled_value}
+use Rattle.gateway_theory.specs.lemmas.HeldValues.{closed_value, forgotten_value, lost_jobs, lost_value, same_value, settled_jobs, settled_value}
 use Rattle.gateway_theory.specs.lemmas.ServedOpens.{opened_adds, opens, unopened_adds}
-use Rattle.gateway_theory.specs.lemmas.ServingSteps.{live_goes, starved_like, taken_like}
+use Rattle.gateway_theory.specs.lemmas.ServingSteps.{live_goes, taken_like}
 use Rattle.gateway_model.specs.Occurrence as occurs
 use Rattle.gateway_model.specs.declared.event.Event.TheVariants as event
 
@@ -53,7 +53,7 @@ closes_adds number v w result h (closes k k_is still r m w_is) s =
     its = (s.each number k k_is).number_is
 
     now_here : (b : Bool) → b ≡ true → (if b then went (core_of v).now (Closing number) (connection number v) else connection number v) ≡ connection_of (closed_held k)
-    now_here b h1 = grind (arith, nat_tests, there_value, its, closed_value)
+    now_here b is = grind (arith, nat_tests, there_value, its, closed_value)
 
     became : Became number (closed_held k) v w (came (Closing number) [] (core_of v).streams (core_of v))
     became = grind (arith, nat_tests, append-nil, same, now_here, eq-eqb)
@@ -68,9 +68,6 @@ module _ (n : Now) (v : ConnectionValue) (id : CallId) (branch : ℕ) (outcome :
   pub unknown_stays : went n (occurs.Result id branch outcome) v ≡ v
   unknown_stays = same_value (went n (occurs.Result id branch outcome) v) v refl refl
       (filled_none (λ r. (call_step n (occurs.Result id branch outcome) v r).reply) v.taken v.slots (λ r. ap (λ (s : Step). s.reply) (quiet_call r))) (λ r. ap (λ (s : Step). s.call) (quiet_call r)) refl refl
-
-  pub unknown_jobs : (call_step n (occurs.Result id branch outcome) v id.request).jobs ≡ []
-  unknown_jobs = ap (λ (s : Step). s.jobs) (quiet_call id.request)
 
 module _ (id : CallId) (branch : ℕ) (outcome : Outcome) (v w : GatewayValue) (h : History) where
   abbrev o : Occurrence
@@ -88,7 +85,7 @@ module _ (id : CallId) (branch : ℕ) (outcome : Outcome) (v w : GatewayValue) (
       (fades_adds (came o [] (core_of v).streams (core_of v)) (core_of v) quiet h.opened e h (core_of v) (result_adds h (core_of v) id branch outcome [] (λ c os all. tt)))
     where
       quiet : Fades (came o [] (core_of v).streams (core_of v)) (core_of v)
-      quiet = grind (arith, nat_tests, unknown_jobs, append-nil, FadesTo, o, same, unknown_stays, eqb-true)
+      quiet = grind (arith, nat_tests, append-nil, FadesTo, o, same, unknown_stays, eqb-true)
 
   -- the connection was kept, and became this
   module _ (k l : HeldConnection) (k_is : conn_of id.conn v ≡ Some k) (s : IsServing v) (m : Moves id.conn (left_of l) v w) (like : Like k l) (holds : Holds l) (jobs : List JobValue)
@@ -208,33 +205,3 @@ results_adds id branch outcome v w took h (there k l jobs k_is t m tally w_is) s
     by (lost i found out live t forgets none) =
         lost_adds id branch v w k l k_is s m plans_are now_is (ap (λ (x : GatewayValue). x.opened) w_is) (ap (λ (x : GatewayValue). x.begun) w_is) both.0 both.1 outcome h i found out live forgets
         (ap (λ (x : GatewayValue). x.jobs) w_is ∙ ap (λ js. v.jobs ++ js) none)
-
-pub starves_adds : (id : CallId) (branch : ℕ) (outcome : Outcome) (v w : GatewayValue) (took : Took) (h : History) → Starves id branch v w took → IsServing v
-    → Adds h.opened (event.BranchResult id.conn id.request branch outcome) h (core_of v) (core_of w)
-starves_adds id branch outcome v w took h (absent none t tally w_is) s = unknown_adds id branch outcome v w h (none_kept id branch v none) w_is
-starves_adds id branch outcome v w took h (there k l k_is t m tally w_is) s = by t
-  where
-    plans_are : w.plans ≡ v.plans
-    plans_are = ap (λ (x : GatewayValue). x.plans) w_is
-
-    now_is : (core_of w).now ≡ (core_of v).now
-    now_is = ap (λ (x : GatewayValue). now_of x.moment x.drained) w_is
-
-    both : Like k l × Holds l
-    both = starved_like id branch k l took t (s.each id.conn k k_is).holds
-
-    by : TakesStarved id branch k l took → Adds h.opened (event.BranchResult id.conn id.request branch outcome) h (core_of v) (core_of w)
-    by (unknown out t l_is) =
-        let conns_are : w.conns ≡ v.conns = m.same (ap left_of l_is ∙ ap (λ b. if b then None else Some k) (s.each id.conn k k_is).stays ∙ sym k_is) in
-        unknown_adds id branch outcome v w h (none_out_in id branch v k k_is s out) (w_is ∙ ap (λ cs. record v { conns = cs; tally = w.tally }) conns_are)
-    by (late i found out dead t forgets) =
-        let none : (kept_at i k.calls).call.live ≡ None = is_dead (kept_at i k.calls).call.live dead in
-        settled_adds id branch v w k l k_is s m plans_are now_is (ap (λ (x : GatewayValue). x.opened) w_is) (ap (λ (x : GatewayValue). x.begun) w_is) both.0 both.1 outcome h i found out
-        (subst (λ x. Forgets id x l) (late_settles v.moment branch outcome i k none) forgets)
-        (ap (λ (x : GatewayValue). x.jobs) w_is ∙ sym (ap (λ js. v.jobs ++ js) (ap (λ (s : Step). s.jobs) (late_step v.moment branch outcome i k none)) ∙ append-nil v.jobs))
-      where
-        is_dead : (l : Option Live) → is_none l ≡ true → l ≡ None
-        is_dead l h1 = grind (arith, nat_tests)
-    by (lost i found out live t forgets) =
-        lost_adds id branch v w k l k_is s m plans_are now_is (ap (λ (x : GatewayValue). x.opened) w_is) (ap (λ (x : GatewayValue). x.begun) w_is) both.0 both.1 outcome h i found out live forgets
-        (ap (λ (x : GatewayValue). x.jobs) w_is ∙ sym (append-nil v.jobs))

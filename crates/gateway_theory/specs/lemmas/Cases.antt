@@ -36,7 +36,7 @@ all_stay p (x ∷ xs) is = let two = or_parts (p x) (list_any p xs) is in rw two
 
 -- the one and not the other
 pub and_off : (a b : Bool) → (a && not b) ≡ true → (a ≡ true) × (b ≡ false)
-and_off a b h2 = grind (arith, nat_tests)
+and_off a b is = grind (arith, nat_tests)
 
 pub and_none : (a b : Bool) → (a && (b && false)) ≡ false
 and_none a b = grind (arith, nat_tests)

@@ -1,6 +1,6 @@
 -- What each occurrence makes of a connection, and of all of them, stands for what occurred.
 use Rattle.std.specs.Prelude.{◌≡◌, ◌+◌, ◌<◌, ◌∷◌, ◌++◌, ◌==◌, if◌then◌else◌, ◌&&◌, ◌||◌}
-use Rattle.gateway_theory.specs.lemmas.Names.{ℕ, true, false, List, [], length, Option, None, refl, sym, ◌∙◌, subst, arith, ⊎_elim, Bool, ap, inl, zero, suc, max, map, Some, append_assoc, nat_tests, not, nat_lt, cond_both, cases_Bool, eq-eqb, eqb-true, ltb-true, lt-ltb, ne_eqb, length-append, get_or_append_left, get_or-eq_default, CallId, Occurrence, Opening, Comes, HangUp, Moment, Result, Drain, Closing, Coming, Break, Past, call_id, is_call, arrivals, coming_on, coming_now, mark_of, is_broken, call, is_shut, marked, Mark, breaks, is_drain, moment_of, shuts, ReplyEntry, entry, slot_at, is_coming, ConnAfter, MachineState, SlotsStand, ConnStands, option_or, Outcome, PlanRecord, Before, Occurs, connections, is_open, Placed, occurrences, jobs_by, jobs_started, jobs, is_visible, own, ConnectionStands, Now, NowStands, arriving, MayCome, entered, filled, is_shut_value, next, now_after, started_by, state_of, stepped, went, AllStand, all_after, all_started, ConnectionValue, CallStands, kept, JobValue}
+use Rattle.gateway_theory.specs.lemmas.Names.{ℕ, true, false, List, [], length, Option, None, refl, sym, ◌∙◌, subst, arith, ⊎_elim, Bool, ap, inl, zero, suc, max, map, Some, append_assoc, nat_tests, not, nat_lt, cond_both, cases_Bool, eq-eqb, eqb-true, ltb-true, lt-ltb, ne_eqb, length-append, get_or_append_left, get_or-eq_default, CallId, Occurrence, Opening, Comes, HangUp, Moment, Result, Drain, Closing, Coming, Break, Past, call_id, is_call, arrivals, coming_on, coming_now, mark_of, is_broken, call, is_shut, marked, Mark, breaks, is_drain, moment_of, shuts, ReplyEntry, entry, slot_at, SlotsStand, option_or, Outcome, PlanRecord, Before, Occurs, connections, is_open, Placed, occurrences, jobs_by, jobs_started, jobs, is_visible, own, ConnectionStands, Now, NowStands, arriving, MayCome, entered, filled, is_shut_value, next, now_after, started_by, stepped, went, AllStand, all_after, all_started, ConnectionValue, CallStands, kept, JobValue, length-map, nat_le, now, crowds, undecided_calls, is_drained, most_calls, arrive, is_full}
 use Rattle.std.proofs.Math.Seq.{get_or-append_seam}
 use Rattle.gateway_model.specs.declared.event.Event.TheVariants.{Opening, HangUp, Moment, Drain, Closing}
 use Rattle.gateway_theory.specs.lemmas.Cases.{and_false, or_true, or_none}
@@ -9,9 +9,10 @@ use Rattle.gateway_theory.specs.lemmas.StandsLemmas.{Quiet, started_same}
 use Rattle.gateway_theory.specs.lemmas.OwnLemmas.{own_alike, own_jobs}
 use Rattle.gateway_theory.specs.Connection.{closes, step}
 use Rattle.gateway_theory.specs.lemmas.Frame.{none_start, unbroken}
-use Rattle.gateway_theory.specs.lemmas.GoingOn.{call_goes, comes_on, conn_goes, next_of, other_goes}
+use Rattle.gateway_theory.specs.lemmas.BeginsLemmas.{arrives}
+use Rattle.gateway_theory.specs.lemmas.GoingOn.{arrivals_same, call_goes, crowd_is, each_slot, is_coming, no_entering, no_entry_yet, other_goes, slots_after}
+use Rattle.gateway_theory.specs.lemmas.SlotLemmas.{undecided_count}
 use Rattle.gateway_theory.specs.lemmas.PrefixLemmas.{after_break, broken_shut}
-use Rattle.gateway_theory.specs.lemmas.MachineLemmas.{no_entering, no_entry_yet}
 use Rattle.gateway_theory.specs.lemmas.ShutConns.{quiet_shut}
 use Rattle.gateway_model.specs.Past as past
 use Rattle.gateway_theory.specs.LiveStands as one_call
@@ -46,7 +47,7 @@ closed_by plans opened c (e ∷ es) occurred (before, was, (os, at, is)) lt shut
 
     by_known : (b : Bool) → nat_lt c (connections opened es) ≡ b → (c < connections opened es → is_open opened c es ≡ false → is_shut c (marked (occurrences before)) ≡ true)
         → is_shut c (marked (occurrences occurred)) ≡ true
-    by_known b h1 h2 = grind (arith, nat_tests, lt-ltb, after, still_closed, ltb-true, eqb-true, back)
+    by_known b is each = grind (arith, nat_tests, lt-ltb, after, still_closed, ltb-true, eqb-true, back)
 
 -- what is not changes nothing
 pub unseen : (c : ℕ) (v : ConnectionValue) (taken : List ReplyEntry) (o : Occurrence) (os : List Occurrence) → is_visible c o ≡ false
@@ -94,15 +95,11 @@ shut_by o c closed broken = grind (arith, nat_tests)
 -- broken, unless it is closed
 broken_by : (closes_now closed breaks_now before broken : Bool) → broken ≡ (not closed && before)
     → (not closes_now && ((breaks_now && not closed) || broken)) ≡ (not (closes_now || closed) && (breaks_now || before))
-broken_by closes_now closed breaks_now before broken h5 = grind (arith, nat_tests)
+broken_by closes_now closed breaks_now before broken is = grind (arith, nat_tests)
 
 was_whole : (closed before broken : Bool) → broken ≡ true → broken ≡ (not closed && before) → before ≡ true
 was_whole false before broken on is = sym is ∙ on
 was_whole true before broken on is = absurd (let clash : true ≡ false = sym on ∙ is in cc)
-
--- the machine that has this connection
-abbrev machine_of : Now → ConnectionValue → MachineState
-machine_of n v = record { moment = n.moment; drained = n.drained; conns = λ d. state_of v; calls = λ id. v.calls id.request; jobs = [] }
 
 module _ (n : Now) (v : ConnectionValue) (taken : List ReplyEntry) (os : List Occurrence) (is_now : NowStands n os) (h : ConnectionStands v taken os) where
   -- ---- an occurrence at which nothing comes
@@ -114,18 +111,22 @@ module _ (n : Now) (v : ConnectionValue) (taken : List ReplyEntry) (os : List Oc
     abbrev reply : ℕ → Option ReplyEntry
     reply k = (call_step.step n.moment (call_id v.number k) o (v.calls k)).reply
 
-    slots_go : (b : Bool) → (b || v.closed) ≡ false → ConnAfter o (machine_of n v) v.number (state_of v)
-        (record { taken = v.taken; slots = if b then [] else filled reply v.taken v.slots; closed = shuts v.number o || is_shut_value v })
+    -- its slots, until it is closed
+    slots_go : (b : Bool) → (b || v.closed) ≡ false → SlotsStand v.number (map Some taken ++ (if b then [] else filled reply v.taken v.slots)) (marked (o ∷ os))
     slots_go true e = absurd (let f : ⊥ = cc in f)
-    slots_go false e = record { taken_is = refl; closed_is = refl; size_is = filled_size reply v.taken v.slots; each = λ j lt. filled_at reply v.taken j v.slots lt }
+    slots_go false e = slots_after v.number (map Some taken ++ v.slots) (map Some taken ++ filled reply v.taken v.slots) (mark_of (marked os) o) (marked os) reply (h.slots_stand e) (arrivals_same v.number o (marked os) plain)
+        (length-append (map Some taken) (filled reply v.taken v.slots) ∙ ap (λ k. length (map Some taken) + k) (filled_size reply v.taken v.slots) ∙ sym (length-append (map Some taken) v.slots))
+        (each_slot taken v.slots (filled reply v.taken v.slots) reply (filled_size reply v.taken v.slots)
+        (λ j lt. filled_at reply v.taken j v.slots lt ∙ ap (λ k. option_or (slot_at j v.slots) (reply (k + j))) (h.taken_is e)))
+        (λ j. (goes j).replies)
 
     shut_then : is_shut_value (went n o v) ≡ (shuts v.number o || is_shut_value v)
     shut_then = shut_by o v.number v.closed v.broken
 
     pub goes_on : ConnectionStands (went n o v) taken (o ∷ os)
     goes_on = record {
-      conn = λ e. subst (λ b. ConnStands v.number (record { taken = v.taken; slots = (went n o v).slots; closed = b }) taken (marked (o ∷ os))) (sym shut_then)
-          (conn_goes v.number o (machine_of n v) (state_of v) _ taken os plain is_now.moment_is h.calls (h.conn (was_open (closes v.number o) v.closed e)) (slots_go (closes v.number o) e));
+      taken_is = λ e. h.taken_is (was_open (closes v.number o) v.closed e);
+      slots_stand = λ e. slots_go (closes v.number o) e;
       calls = λ k. (goes k).stands;
       broken_is = broken_by (closes v.number o) v.closed (breaks v.number o) (is_broken v.number (marked os)) v.broken h.broken_is;
       shut_is = shut_then ∙ ap (λ b. shuts v.number o || b) h.shut_is;
@@ -159,7 +160,8 @@ module _ (n : Now) (v : ConnectionValue) (taken : List ReplyEntry) (os : List Oc
 
       pub stays_broken : ConnectionStands v taken (Comes v.number x ∷ os)
       stays_broken = record {
-        conn = λ e. grind (arith, nat_tests);
+        taken_is = h.taken_is;
+        slots_stand = λ e. grind arith;
         calls = λ k. (other_goes v.number x (call_id v.number k) (v.calls k) n.moment os (none_now k) is_now.moment_is (h.calls k)).stands;
         broken_is = h.broken_is;
         shut_is = h.shut_is;
@@ -173,14 +175,24 @@ module _ (n : Now) (v : ConnectionValue) (taken : List ReplyEntry) (os : List Oc
       unshut : is_shut v.number its_past ≡ false
       unshut = sym h.shut_is ∙ goes_in
 
-      stands : ConnStands v.number (state_of v) taken its_past
-      stands = h.conn (not_closed v.closed v.broken goes_in)
+      still : v.closed ≡ false
+      still = not_closed v.closed v.broken goes_in
 
-      comes : one_call.Stepped (call_id v.number (next v)) (arriving n x v) mark its_past
-      comes = comes_on v.number x (machine_of n v) taken os is_now.moment_is is_now.drained_is stands unshut
+      size : length (map Some taken ++ v.slots) ≡ next v
+      size = length-append (map Some taken) v.slots ∙ omega (arith, h.taken_is still, length-map taken (λ (e : ReplyEntry). Some e))
 
       behind : arrivals v.number its_past ≡ next v
-      behind = next_of v.number (state_of v) taken its_past stands
+      behind = sym (h.slots_stand still).size_is ∙ size
+
+      comes : one_call.Stepped (call_id v.number (next v)) (arriving n x v) mark its_past
+      comes = subst (λ r. one_call.Stepped (call_id v.number (next v)) r mark its_past) (sym right) (arrives (call_id v.number (next v)) x os (record { next = behind; unshut = unshut }))
+        where
+          full : is_full v.slots ≡ nat_le most_calls (undecided_calls v.number its_past)
+          full = ap (λ k. nat_le most_calls k) (undecided_count v.number taken v.slots its_past (h.slots_stand still))
+
+          right : arriving n x v ≡ arrive (now its_past) (is_drained its_past) (crowds (Comes v.number x) its_past) (call_id v.number (next v)) x
+          right = crowd_is v.number x (is_full v.slots) its_past n.moment n.drained (call_id v.number (next v)) full
+              ∙ (λ i. arrive (is_now.moment_is i) (is_now.drained_is i) (crowds (Comes v.number x) its_past) (call_id v.number (next v)) x)
 
       -- another call than the one that comes
       other : (k : ℕ) → (next v == k) ≡ false → one_call.Stepped (call_id v.number k) (kept (v.calls k)) mark its_past
@@ -193,9 +205,6 @@ module _ (n : Now) (v : ConnectionValue) (taken : List ReplyEntry) (os : List Oc
           (λ (apart : (next v == k) ≡ false). rw apart (other k apart).stands)
           (cases_Bool (next v == k))
 
-      size : length (map Some taken ++ v.slots) ≡ next v
-      size = stands.slots_stand.size_is ∙ behind
-
       others_stay : (j : ℕ) → (j ≡ length (map Some taken ++ v.slots) → ⊥) → entry (call_id v.number j) its_past ≡ entry (call_id v.number j) (mark ∷ its_past)
       others_stay j ne = sym (or_none (entry (call_id v.number j) its_past)) ∙ (other j (ne_eqb (next v) j (λ e. ne (sym e ∙ sym size)))).replies
 
@@ -205,12 +214,9 @@ module _ (n : Now) (v : ConnectionValue) (taken : List ReplyEntry) (os : List Oc
 
       pub comes_in : ConnectionStands (entered (arriving n x v) v) taken (Comes v.number x ∷ os)
       comes_in = record {
-        conn = λ e. record {
-          taken_is = stands.taken_is;
-          closed_is = stands.closed_is;
-          slots_stand = subst (λ xs. SlotsStand v.number xs (mark ∷ its_past)) (append_assoc (map Some taken) v.slots ((arriving n x v).reply ∷ []))
-              (more_slots v.number x (map Some taken ++ v.slots) (arriving n x v).reply its_past stands.slots_stand (unbroken v.number its_past unshut) others_stay here_is);
-        };
+        taken_is = h.taken_is;
+        slots_stand = λ e. subst (λ xs. SlotsStand v.number xs (mark ∷ its_past)) (append_assoc (map Some taken) v.slots ((arriving n x v).reply ∷ []))
+            (more_slots v.number x (map Some taken ++ v.slots) (arriving n x v).reply its_past (h.slots_stand still) (unbroken v.number its_past unshut) others_stay here_is);
         calls = made;
         broken_is = h.broken_is;
         shut_is = h.shut_is;
@@ -258,9 +264,6 @@ module _ (n : Now) (v : ConnectionValue) (taken : List ReplyEntry) (os : List Oc
   step_jobs (Closing d) on may = refl
   step_jobs (Break d) on may = refl
 
-same_number : (n : Now) (o : Occurrence) (v : ConnectionValue) → (step n o v).conn.number ≡ v.number
-same_number n o v = grind (arith, nat_tests)
-
 module _ (n : Now) (conns : ℕ → ConnectionValue) (taken : ℕ → List ReplyEntry) (handed waiting : List JobValue) (os : List Occurrence) (h : AllStand n conns taken handed waiting os)
     (o : Occurrence) (may : (c : ℕ) → MayCome o (conns c)) where
   -- one of them, to which it is visible or not
@@ -270,16 +273,12 @@ module _ (n : Now) (conns : ℕ → ConnectionValue) (taken : ℕ → List Reply
       (step_stands n (conns c) (taken c) (own c os) (now_own c n os h.now) (h.each c) o (ap (λ d. is_visible d o) (h.numbers c) ∙ on) (may c))
   each_by c false off = unseen c (conns c) (taken c) o os off (h.each c)
 
-  number_by : (c : ℕ) (b : Bool) → (if b then (step n o (conns c)).conn else conns c).number ≡ c
-  number_by c true = same_number n o (conns c) ∙ h.numbers c
-  number_by c false = h.numbers c
-
   jobs_on : (c : ℕ) → is_visible c o ≡ true → (step n o (conns c)).jobs ≡ jobs_by o (mark_of (marked os) o) (marked os)
   jobs_on c on = step_jobs n (conns c) (taken c) (own c os) (now_own c n os h.now) (h.each c) o (ap (λ d. is_visible d o) (h.numbers c) ∙ on) (may c) ∙ sym (own_jobs c o os on)
 
   pub all_stand : (started : List JobValue) → started ≡ jobs_by o (mark_of (marked os) o) (marked os)
       → AllStand (now_after o n) (all_after n o conns) taken handed (waiting ++ started) (o ∷ os)
-  all_stand started is = grind (arith, nat_tests, now_goes, number_by, each_by, append_assoc)
+  all_stand started is = grind (arith, nat_tests, now_goes, each_by, append_assoc)
 
 -- whatever occurs
 pub all_step : (n : Now) (conns : ℕ → ConnectionValue) (taken : ℕ → List ReplyEntry) (handed waiting : List JobValue) (os : List Occurrence) (o : Occurrence)

@@ -33,7 +33,7 @@ sum_put zero k y g lt none = absurd (omega (arith, lt))
 sum_put (suc n) k y g lt none = by (n == k) refl (λ less. sum_put n k y g less none)
   where
     by : (b : Bool) → (n == k) ≡ b → (k < n → sum_below n (λ c. if c == k then y else g c) ≡ y + sum_below n g) → sum_below n (λ c. if c == k then y else g c) + (if n == k then y else g n) ≡ y + (sum_below n g + g n)
-    by b h1 h2 = grind (arith, nat_tests, eqb-true, sum_below, sum_alike, ne_eqb, eq-eqb)
+    by b is each = grind (arith, nat_tests, eqb-true, sum_below, sum_alike, ne_eqb, eq-eqb)
 
 module _ {X : Type 0} where
   abbrev pub look : ℕ → List (ℕ × X) → Option X

@@ -76,7 +76,7 @@ length_more (x ∷ later) before e = omega (arith, length_more later before e)
 same_later : (opened shifted : List ℕ) (later before : Before) (conn : ℕ) (p q : List ℕ) → IsShifted (length before) opened shifted
     → IsSame opened shifted (later ++ Piece conn (p ++ q) ∷ before) (later ++ Piece conn q ∷ Piece conn p ∷ before)
 same_later opened shifted [] before conn p q h = same_piece opened shifted conn p q before (same_before opened shifted (length before) before (omega arith) h)
-same_later opened shifted (e ∷ later) before conn p q h = grind (arith, nat_tests, same_later opened shifted later before conn p q h, same_next, length_split, length_more)
+same_later opened shifted (e ∷ later) before conn p q h = grind (arith, same_later opened shifted later before conn p q h, length_split, length_more)
 
 -- ---- what the two pieces bring is what the one brings
 
@@ -88,7 +88,7 @@ IsFinal Closed = ⊤
 
 -- what was refused or closed stays so
 requests_stay : RequestLaws → (k : ℕ) (s more : List ℕ) (given : List HttpRequest) (ending : StreamEnd) → IsFinal ending → Requests k s given ending → Requests k (s ++ more) given ending
-requests_stay h0 k s more given ending h6 h7 = grind (arith, nat_tests)
+requests_stay fact k s more given ending further final = grind (arith, nat_tests)
 
 refusal_open : (k l : List ℕ) (e : StreamEnd) → refusal_gained (Open k) e ≡ refusal_gained (Open l) e
 refusal_open k l e = grind (arith, nat_tests)
@@ -97,7 +97,7 @@ join_gains : (plans : List PlanRecord) (e0 e1 e2 : StreamEnd) (m1 m2 : List Http
     → (IsFinal e0 → e1 ≡ e0) → (IsFinal e1 → (m2 ≡ []) × (e2 ≡ e1))
     → requests_gained plans (m1 ++ m2) ++ refusal_gained e0 e2
     ≡ (requests_gained plans m1 ++ refusal_gained e0 e1) ++ (requests_gained plans m2 ++ refusal_gained e1 e2)
-join_gains plans e0 e1 e2 m1 m2 h6 h7 = grind (arith, nat_tests, map-append, append-nil, refusal_open, append_assoc)
+join_gains plans e0 e1 e2 m1 m2 each every = grind (arith, nat_tests, map-append, append-nil, refusal_open, append_assoc)
 
 -- a stream that has ended brings nothing more
 after_final : RequestLaws → (s more : List ℕ) (given later : List HttpRequest) (e f : StreamEnd) → Requests 0 s given e → Requests 0 (s ++ more) (given ++ later) f
@@ -108,7 +108,7 @@ after_final laws s more given later e f h g final =
 
 pub gains_both : RequestLaws → (plans : List PlanRecord) (s p q : List ℕ) (x y z : List Coming)
     → Gains plans s (s ++ p) x → Gains plans (s ++ p) ((s ++ p) ++ q) y → Gains plans s (s ++ (p ++ q)) z → z ≡ x ++ y
-gains_both laws plans s p q x y z g h w = grind (arith, nat_tests, append_assoc, append_cancel_left, after_final, join_gains)
+gains_both laws plans s p q x y z g h w = search (arith, append_assoc, append_cancel_left, after_final, join_gains)
 
 -- ---- occurrences
 
@@ -128,7 +128,7 @@ occurrences_onto place (o ∷ os) past = occurrences_onto place os ((place, o) �
 -- an event brings the same after lists that come to the same
 pub at_same : (plans : List PlanRecord) (opened shifted : List ℕ) (e : Event) (es fs : Before) (os : List Occurrence) → IsSame opened shifted es fs
     → succeeds shifted (length fs) ≡ succeeds opened (length es) → OccursAt plans shifted e fs os → OccursAt plans opened e es os
-at_same plans opened shifted e es fs os h7 h8 h9 = grind (arith, nat_tests)
+at_same plans opened shifted e es fs os fact is further = grind (arith, nat_tests)
 
 step_same : RequestLaws → (plans : List PlanRecord) (opened shifted : List ℕ) (e : Event) (es fs : Before) (m n : ℕ) (a b : List Placed) (os us : List Occurrence)
     → IsSame opened shifted es fs → succeeds shifted (length fs) ≡ succeeds opened (length es) → occurrences a ≡ occurrences b

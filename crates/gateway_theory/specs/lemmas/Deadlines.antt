@@ -1,8 +1,9 @@
--- What is known of the deadlines of branches, and of the one that decides.
+-- What is known of the deadlines of branches, of the one that decides, and of the least.
 use Rattle.std.specs.Prelude.{◌≡◌, ◌+◌, ◌<◌, ◌≤◌, ◌∷◌, ◌++◌, ◌⊎◌, ◌||◌, if◌then◌else◌}
-use Rattle.gateway_theory.specs.lemmas.Names.{ℕ, zero, suc, Bool, true, false, List, [], map, length, Option, None, Some, refl, sym, ap, ◌∙◌, arith, ⊎_elim, inl, inr, nat_tests, nat_le, slice_index_or, option_and_then, option_map_or, list_any, range_with_len, cases_Bool, eqb-true, le-ltb, lt-ltb, length-map-range_with_len, get_or-map-range_with_len, map-range_with_len_more, ext_get_or, PlanRecord, time_of, CallId, CallEvent, Expired, BranchExpired, Mark, Past, ArrivedCall, call, started, started_when, is_out, now, smaller, is_due, least_of, first_at, due_by, deadline_from, branch_deadlines, deadlines_out, deadlines_in}
+use Rattle.gateway_theory.specs.lemmas.Names.{ℕ, zero, suc, Bool, true, false, List, [], map, length, Option, None, Some, refl, sym, ap, ◌∙◌, arith, ⊎_elim, inl, inr, nat_tests, nat_le, slice_index_or, option_and_then, option_map_or, list_any, range_with_len, cases_Bool, eqb-true, le-ltb, length-map-range_with_len, get_or-map-range_with_len, map-range_with_len_more, ext_get_or, PlanRecord, time_of, CallId, CallEvent, Expired, BranchExpired, Mark, Past, ArrivedCall, call, started, started_when, is_out, now, smaller, is_due, least_of, first_at, due_by, deadline_from, branch_deadlines, deadlines_out, deadlines_in, is_some, Reached, ended_call, KeptValue, Live}
 use Rattle.gateway_model.specs.Past.{is_at}
 use Rattle.gateway_theory.specs.lemmas.LimitLemmas.{out_started}
+use Rattle.gateway_theory.specs.Least.{deadline_of, ends_any, least_deadline}
 
 -- the deadline of a branch that has started
 abbrev pub branch_deadline : CallId → PlanRecord → Past → ℕ → Option ℕ
@@ -23,7 +24,7 @@ at_is at (Some d) e = ap (λ n. Some n) (eqb-true d at e)
 
 -- the smaller of two is the one or the other
 smaller_other : (at : ℕ) (d l : Option ℕ) → smaller d l ≡ Some at → is_at at d ≡ false → l ≡ Some at
-smaller_other at d l h3 h4 = grind (arith, nat_tests)
+smaller_other at d l is also = grind (arith, nat_tests)
 
 -- the least is one of them
 pub least_found : (ds : List (Option ℕ)) (at : ℕ) → least_of ds ≡ Some at → list_any (is_at at) ds ≡ true
@@ -59,7 +60,7 @@ expires moment deadline outs e is = by_least (smaller deadline (least_of outs)) 
         inr (found.0, sym event ∙ ap (λ k. BranchExpired k moment) place, found.3, rw found.2 r_is)
 
     by_least : (s : Option ℕ) → smaller deadline (least_of outs) ≡ s → ExpiresBy moment deadline outs e
-    by_least s h1 = grind (arith, nat_tests, by_at)
+    by_least s reached = grind (arith, by_at)
 
 -- ---- lists of deadlines
 
@@ -69,15 +70,12 @@ on_range d f g n same =
     (λ i lt. let below : i < n = omega (arith, lt, length-map-range_with_len f 0 n) in
     get_or-map-range_with_len f 0 n i i d below (omega arith) ∙ same i below ∙ sym (get_or-map-range_with_len g 0 n i i d below (omega arith)))
 
-when_same : (id : CallId) (i : ℕ) (m : Mark) (past : Past) → i < started id past → started_when id i (m ∷ past) ≡ started_when id i past
-when_same id i m past lt = rw (lt-ltb i (started id past) lt) refl
-
 when_now : (id : CallId) (i : ℕ) (m : Mark) (past : Past) → started id past ≤ i → started_when id i (m ∷ past) ≡ now past
 when_now id i m past ge = rw (le-ltb i (started id past) ge) refl
 
 -- those of the branches that had started stay
 stay : (id : CallId) (plan : PlanRecord) (m : Mark) (past : Past) → map (branch_deadline id plan (m ∷ past)) (range_with_len 0 (started id past)) ≡ map (branch_deadline id plan past) (range_with_len 0 (started id past))
-stay id plan m past = grind (arith, nat_tests, on_range, when_same)
+stay id plan m past = grind (arith, nat_tests, on_range)
 
 -- where no more branches have started they are those of before
 pub deadlines_same : (id : CallId) (m : Mark) (past : Past) → call id (m ∷ past) ≡ call id past → started id (m ∷ past) ≡ started id past
@@ -167,3 +165,20 @@ pub reached_out : (id : CallId) (a : ArrivedCall) (past : Past) (moment k : ℕ)
     → is_due moment (slice_index_or (deadlines_out id a.plan past) k None) ≡ true
     → (is_out id k past ≡ true) × (is_due moment (slice_index_or (branch_deadlines id past) k None) ≡ true)
 reached_out id a past moment k call_is lt due = grind (arith, nat_tests, get_or-map-range_with_len, length-map-range_with_len, deadline_at, out_started, out_deadline)
+
+one_ends : (moment : ℕ) (k : KeptValue) → is_some (ended_call (Reached moment) k.id k.call).reply ≡ is_due moment (deadline_of k)
+one_ends moment k = by k.call.live refl
+  where
+    by : (o : Option Live) → k.call.live ≡ o → is_some (ended_call (Reached moment) k.id k.call).reply ≡ is_due moment (deadline_of k)
+    by None is = rw is refl
+    by (Some l) is = rw is (⊎_elim
+        (λ (due : is_due moment (smaller l.asked.deadline (least_of (deadlines_in k.call.out l.deadlines))) ≡ true). rw due refl)
+        (λ (low : is_due moment (smaller l.asked.deadline (least_of (deadlines_in k.call.out l.deadlines))) ≡ false). rw low refl)
+        (cases_Bool (is_due moment (smaller l.asked.deadline (least_of (deadlines_in k.call.out l.deadlines))))))
+
+pub ends_due : (moment : ℕ) (calls : List KeptValue) → ends_any moment calls ≡ is_due moment (least_deadline calls)
+ends_due moment [] = refl
+ends_due moment (k ∷ ks) =
+    ap (λ b. b || ends_any moment ks) (one_ends moment k)
+    ∙ ap (λ b. is_due moment (deadline_of k) || b) (ends_due moment ks)
+    ∙ sym (due_smaller moment (deadline_of k) (least_deadline ks))

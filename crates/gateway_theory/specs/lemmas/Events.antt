@@ -1,18 +1,18 @@
 -- What decides a call concerns its connection; what the events and the breaks at them make of the connections.
-use Rattle.std.specs.Prelude.{◌≡◌, ◌<◌, ◌∷◌, ◌++◌, if◌then◌else◌, ◌&&◌, ◌==◌, ◌||◌}
-use Rattle.gateway_theory.specs.lemmas.Names.{ℕ, Bool, true, false, List, [], None, refl, sym, ap, ◌∙◌, zero, suc, Option, Some, arith, subst, nat_tests, not, slice_set, slice_index_or, nat_lt, is_some, is_none, eqb-true, eq-eqb, Outcome, CallId, Occurrence, Opening, Comes, HangUp, Moment, Result, Drain, Closing, Break, call, is_call, is_result_of, Past, ArrivedCall, call_id, is_out, is_shut, due_by, is_undecided, arrivals, now, deciding, count_below, mark_of, counts, marked, is_broken, Step, has_out, kept, step, deadlines_in, ended_by, moment_after, result_on, CallState, call_state, Live, ConnectionValue, is_open_value, CallStays, NothingOf, option_or, CallEvent, LiveStands, CallStands, concerns, decided_by, ReplyEntry, JobValue, is_visible, own, is_break, AllStand, Now, breaks_of, call_step, MayCome, all_after, all_started, is_shut_value, now_after, went, Before, OccursAt, listens, once, Event, History, occurrences, Adds, CoreValue, HasConns, StreamValue, is_heard}
+use Rattle.std.specs.Prelude.{◌≡◌, ◌<◌, ◌∷◌, ◌++◌, if◌then◌else◌, ◌&&◌, ◌==◌}
+use Rattle.gateway_theory.specs.lemmas.Names.{ℕ, Bool, true, false, List, [], None, refl, sym, ap, ◌∙◌, zero, suc, Option, Some, arith, subst, nat_tests, not, slice_set, slice_index_or, nat_lt, is_some, is_none, eqb-true, eq-eqb, Outcome, CallId, Occurrence, Opening, Comes, HangUp, Moment, Result, Drain, Closing, Break, call, is_call, is_result_of, Past, ArrivedCall, call_id, is_out, is_shut, due_by, is_undecided, arrivals, now, deciding, count_below, mark_of, counts, marked, is_broken, Step, has_out, kept, step, deadlines_in, ended_by, moment_after, result_on, CallState, call_state, Live, ConnectionValue, is_open_value, CallStays, NothingOf, option_or, CallEvent, LiveStands, CallStands, concerns, decided_by, ReplyEntry, JobValue, is_visible, own, is_break, AllStand, Now, breaks_of, call_step, MayCome, all_after, all_started, is_shut_value, now_after, went, Before, OccursAt, listens, once, Event, History, occurrences, Adds, CoreValue, HasConns, StreamValue, is_heard, or_parts}
 use Rattle.gateway_theory.specs.lemmas.Cases.{and_true}
 use Rattle.gateway_theory.specs.lemmas.StepLemmas.{back_out, moment_ends}
 use Rattle.gateway_theory.specs.lemmas.LimitLemmas.{same_call}
-use Rattle.gateway_theory.specs.lemmas.Unborn.{unborn}
+use Rattle.gateway_theory.specs.lemmas.PastLemmas.{unborn}
 use Rattle.gateway_theory.specs.lemmas.Deadlines.{outs_are}
 use Rattle.gateway_theory.specs.lemmas.Frame.{own_before}
 use Rattle.gateway_theory.specs.lemmas.ConnectionSteps.{now_own, all_step}
-use Rattle.gateway_theory.specs.lemmas.MachineLemmas.{no_entering}
+use Rattle.gateway_theory.specs.lemmas.GoingOn.{no_entering}
 use Rattle.gateway_theory.specs.lemmas.OwnLemmas.{Alike, own_alike}
 use Rattle.gateway_theory.specs.Connection.{closes}
-use Rattle.gateway_theory.specs.lemmas.Broadcast.{all_broken, breaks_stand, listed, not_broken, AreOnce, drain_stands, moment_stands}
-use Rattle.gateway_theory.specs.lemmas.Adding.{MayBreak, Newer, one_newer, breaks_each, AreBreaks, none_newer, StandsNow, adds_event, none_more}
+use Rattle.gateway_theory.specs.lemmas.Broadcast.{all_broken, breaks_stand, not_broken, drain_stands, moment_stands}
+use Rattle.gateway_theory.specs.lemmas.Adding.{AreOnce, listed, MayBreak, Newer, one_newer, breaks_each, AreBreaks, none_newer, StandsNow, adds_event, none_more}
 use Rattle.gateway_theory.specs.lemmas.Knowing.{broken_stands}
 use Rattle.gateway_theory.specs.lemmas.PrefixLemmas.{broken_shut}
 use Rattle.gateway_theory.specs.lemmas.Standing.{outs_stand}
@@ -29,7 +29,7 @@ kept_quiet id o c none = (record { outs_are = λ k. sym (and_true (has_out c k))
 
 quiet_result : (id of : CallId) (i : ℕ) (r : Outcome) (out : List Bool) (b d : Bool) → is_call of id ≡ b → slice_index_or out i false ≡ d
     → Quiet id (Result of i r) (call_state out None) (if b && d then kept (call_state (slice_set out i false) None) else kept (call_state out None))
-quiet_result id of i r out b d h7 h8 = grind (arith, nat_tests, kept_quiet, outs_are, back_out, eqb-true, and_true)
+quiet_result id of i r out b d is also = grind (arith, nat_tests, kept_quiet, outs_are, back_out, eqb-true, and_true)
 
 pub quiet_at : (moment : ℕ) (id : CallId) (o : Occurrence) (out : List Bool) → Quiet id o (call_state out None) (step moment id o (call_state out None))
 quiet_at moment id o out = grind (arith, nat_tests, quiet_result, kept_quiet)
@@ -107,13 +107,9 @@ pub nothing_of : (c k : ℕ) (o : Occurrence) (out : List Bool) (live : Option L
 nothing_of c k o out None past not_so h = grind (arith, nat_tests, quiet_at, still_none)
 nothing_of c k o out (Some l) past not_so h = live_nothing c k o out l past not_so h
 
-count_alike : (n : ℕ) (p q : ℕ → Bool) → ((k : ℕ) → p k ≡ q k) → count_below n p ≡ count_below n q
-count_alike zero p q same = refl
-count_alike (suc n) p q same = ap (λ b. if b then suc (count_below n p) else count_below n p) (same n) ∙ ap (λ k. if q n then suc k else k) (count_alike n p q same)
-
 -- where nothing decided it before
 same_by : (c : Option ArrivedCall) (d e f : Option CallEvent) → option_or d e ≡ option_or d f → ((is_some c && is_none d) && is_some e) ≡ ((is_some c && is_none d) && is_some f)
-same_by c d e f h4 = grind (arith, nat_tests)
+same_by c d e f is = grind (arith, nat_tests)
 
 module _ (c : ℕ) (os : List Occurrence) where
   abbrev p : Past
@@ -136,7 +132,7 @@ module _ (c : ℕ) (os : List Occurrence) where
     each_alike k = grind (arith, nat_tests, same_by, then_alike, a)
 
     decided_alike : decided_by c o p ≡ decided_by c o q
-    decided_alike = grind (arith, nat_tests, a, count_alike, each_alike)
+    decided_alike = grind (arith, nat_tests, a, each_alike)
 
   -- it concerns it by all that occurred as by what is its own
   pub concerns_own : (o : Occurrence) → is_visible c o ≡ true → concerns c o p ≡ concerns c o q
@@ -182,16 +178,12 @@ concerned_amid n conns taken handed waiting os h o ds c k on off replies =
 abbrev pub BreakBy : Now → (ℕ → ConnectionValue) → Occurrence → List ℕ → Type 0
 BreakBy n conns o cs = (c : ℕ) → listed cs c ≡ true → (is_shut_value (conns c) ≡ false) × ((k : ℕ) × (is_some (call_step n o (conns c) k).reply ≡ true))
 
-or_false : (a b : Bool) → (a || b) ≡ false → (a ≡ false) × (b ≡ false)
-or_false false b e = (refl, e)
-or_false true b e = absurd (cc)
-
 module _ (n : Now) (conns : ℕ → ConnectionValue) (taken : ℕ → List ReplyEntry) (handed waiting : List JobValue) (os : List Occurrence) (h : AllStand n conns taken handed waiting os)
     (opened : List ℕ) (es : Before) (cs : List ℕ) (once : AreOnce cs) where
   not_before : (c : ℕ) (ds : List ℕ) → listed ds c ≡ false → is_shut_value (conns c) ≡ false → is_broken c (marked (breaks_of ds ++ os)) ≡ false
   not_before c ds off whole =
       let same : all_broken n ds conns c ≡ conns c = not_broken n conns c ds off in
-      let parts = or_false (conns c).closed (conns c).broken whole in
+      let parts = or_parts (conns c).closed (conns c).broken whole in
       sym (broken_stands n (all_broken n ds conns) 0 taken handed waiting (breaks_of ds ++ os) (breaks_stand n taken handed waiting os conns h ds) c (ap (λ (v : ConnectionValue). v.closed) same ∙ parts.0))
       ∙ ap (λ (v : ConnectionValue). v.broken) same ∙ parts.1
 
@@ -305,7 +297,7 @@ module _ (h : History) (v : CoreValue) where
       (λ c os at. at ∙ ap (λ b. once b (Closing n)) ((c.each n).open_is ∙ there)) (λ d. tt) (λ c os all. tt)
     where
       shuts : (c : ℕ) → (n == c) ≡ true → (is_open_value v.opened c (v.conns c) ≡ true) × (((came (Closing n) [] v.streams v).conns c).closed ≡ true)
-      shuts c h1 = grind (arith, nat_tests)
+      shuts c is = grind (arith, nat_tests)
 
   -- one that is not open does not
   pub unclosed_adds : (n : ℕ) → is_open_value v.opened n (v.conns n) ≡ false → Adds h.opened (event.Closing n) h v v

@@ -53,7 +53,7 @@ out_same id k m past same not_so = out_after id k m past same ∙ rw not_so (and
 
 -- where no more branches have started, no job starts
 pub none_start : (id : CallId) (m : Mark) (past : Past) → started id (m ∷ past) ≡ started id past → jobs_started id m past ≡ []
-none_start id m past same = grind arith
+none_start id m past same = search arith
 
 -- ---- the entry of a request
 
@@ -70,7 +70,7 @@ unbroken conn [] e = refl
 unbroken conn (m ∷ past) e = let parts = neither (shuts conn m.what) (is_shut conn past) e in rw (not_now m.what parts.0, unbroken conn past parts.1) refl
   where
     neither : (a b : Bool) → (a || b) ≡ false → (a ≡ false) × (b ≡ false)
-    neither a b h2 = grind (arith, nat_tests)
+    neither a b is = grind (arith, nat_tests)
 
     not_now : (o : Occurrence) → shuts conn o ≡ false → breaks conn o ≡ false
-    not_now o h1 = grind (arith, nat_tests)
+    not_now o is = grind (arith, nat_tests)

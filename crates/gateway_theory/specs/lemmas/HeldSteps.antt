@@ -4,7 +4,7 @@ use Rattle.gateway_theory.specs.lemmas.Names.{ℕ, true, false, List, [], map, l
 use Rattle.gateway_theory.specs.lemmas.StoreLemmas.{calls_filtered, calls_more, ids_mapped, ids_set, fewer, one_more}
 use Rattle.gateway_theory.specs.lemmas.ConnectionSteps.{filled_size, filled_at}
 use Rattle.gateway_theory.specs.lemmas.HeldValues.{fresh_in, replied_rest, replied_slots}
-use Rattle.gateway_theory.specs.lemmas.ServedPieces.{few_given, no_refusal, after_settled}
+use Rattle.gateway_theory.specs.lemmas.ServedPieces.{few_given, no_refusal}
 
 -- a call that can't be decided stays so
 abbrev pub IsDead : KeptValue → Type 0
@@ -102,7 +102,7 @@ module _ (s : Step) (k : HeldConnection) (still : k.closed ≡ false) (whole : k
   size_then = length-append k.slots (s.reply ∷ [])
 
   each_now : (P : KeptValue → Type 0) (live : Option Live) → ((c : KeptValue) → c.id ≡ next_held k → P c) → All P (kept_now (next_held k) s live)
-  each_now P live h2 = grind (arith, nat_tests)
+  each_now P live each = grind (arith, nat_tests)
 
   apart_now : (live : Option Live) → AreApart (k.calls ++ kept_now (next_held k) s live)
   apart_now None = subst AreApart (sym (append-nil k.calls)) h.apart
@@ -207,7 +207,7 @@ held_hung n c k h = grind arith
 -- ---- it is closed
 
 pub held_closed : (n c : ℕ) (k : HeldConnection) → is_gone (closed_held k) ≡ false → IsHeld n c k → IsHeld n c (closed_held k)
-held_closed n c k here h = grind (arith, nat_tests, holds_closed)
+held_closed n c k here h = search (arith, holds_closed)
 
 -- ---- it opens
 
@@ -222,7 +222,7 @@ held_more n m c k le h = grind arith
 
 -- a request that was crowded out has its reply
 arrives_few : (moment : ℕ) (drained crowded : Bool) (id : CallId) (x : Coming) → (arrive moment drained crowded id x).reply ≡ None → crowded ≡ false
-arrives_few moment drained crowded id x h5 = grind (arith, nat_tests)
+arrives_few moment drained crowded id x is = grind (arith, nat_tests)
 
 few_entered : (moment : ℕ) (drained : Bool) (x : Coming) (k : HeldConnection) → undecided k ≤ most_calls → undecided (entered_held (arriving_in moment drained x k) k) ≤ most_calls
 few_entered moment drained x k few = grind (arith, nat_tests, one_more, leb-false, arrives_few)
@@ -241,7 +241,7 @@ one_if (Some x) = 1
 
 pub given_then : (plans : List PlanRecord) (n : ℕ) (bytes text : List ℕ) (given : List HttpRequest) (request : Option HttpRequest) (old new : ReaderValue) → ReadsOn n request bytes old new → HasRead old text given
     → GivenThen (text ++ take n bytes) given (one_if (coming_of plans request new.reading)) new
-given_then plans n bytes text given request old new h8 h9 = grind (arith, nat_tests, after_settled, length-append)
+given_then plans n bytes text given request old new fact further = grind (arith, length-append)
 
 module _ (n c : ℕ) (plans : List PlanRecord) (bytes : List ℕ) (taken : ℕ) (request : Option HttpRequest) (reader : ReaderValue) (k : HeldConnection) (on : hears k ≡ true) (going : is_over k.reader.reading ≡ false)
     (r : ReadsOn taken request bytes k.reader reader) (h : IsHeld n c k) where

@@ -20,7 +20,7 @@ call_dead id (k ∷ calls) = grind (arith, call_dead id calls)
 
 pub call_ended : (t : Trigger) (id : CallId) (calls : List KeptValue) → call_at id (map (ended_kept t) calls) ≡ (ended_call t id (call_at id calls)).call
 call_ended t id [] = refl
-call_ended t id (k ∷ calls) = grind (arith, call_ended t id calls)
+call_ended t id (k ∷ calls) = grind (arith, nat_tests, call_ended t id calls)
 
 -- its next request is of no call that is kept
 pub fresh_in : (id : CallId) (calls : List KeptValue) → All (λ (c : KeptValue). c.id.request < id.request) calls → IsFound id calls None
@@ -49,7 +49,7 @@ replied_slots q None k = grind (arith, nat_tests, filled_none)
 replied_slots q (Some e) k = by (nat_lt q k.taken) refl
   where
     by : (b : Bool) → nat_lt q k.taken ≡ b → (if b then k else record k { slots = fill_at (q - k.taken) e k.slots }).slots ≡ filled (λ r. if q == r then Some e else None) k.taken k.slots
-    by b h1 = grind (arith, nat_tests, none_filled, ltb-true, one_filled, ltb-false)
+    by b is = grind (arith, nat_tests, none_filled, ltb-true, one_filled, ltb-false)
 
 -- nothing else of it
 pub replied_rest : (q : ℕ) (reply : Option ReplyEntry) (k : HeldConnection) → replied q reply k ≡ record k { slots = (replied q reply k).slots }
@@ -59,11 +59,11 @@ replied_rest q reply k = grind (arith, nat_tests)
 
 -- a request that begins no call leaves none
 arrives_gone : (moment : ℕ) (drained crowded : Bool) (id : CallId) (x : Coming) → (arrive moment drained crowded id x).call.live ≡ None → (arrive moment drained crowded id x).call ≡ gone
-arrives_gone moment drained crowded id x h5 = grind (arith, nat_tests)
+arrives_gone moment drained crowded id x is = grind (arith, nat_tests)
 
 call_entered : (id : CallId) (s : Step) (live : Option Live) (calls : List KeptValue) → s.call.live ≡ live → (s.call.live ≡ None → s.call ≡ gone) → IsFound id calls None → (other : CallId)
     → call_at other (calls ++ kept_now id s live) ≡ (if is_call id other then s.call else call_at other calls)
-call_entered id s live calls h4 h5 h6 other = grind (arith, nat_tests, call_added, append-nil, same_call, call_missing)
+call_entered id s live calls is each fact other = grind (arith, nat_tests, call_added, append-nil, same_call, call_missing)
 
 module _ (n : Now) (k : HeldConnection) where
   -- something comes on one that is not closed
@@ -130,7 +130,7 @@ module _ (n : Now) (k : HeldConnection) where
 
     at_it : (r : ℕ) (b : Bool) → is_call id (call_id k.number r) ≡ b
         → call_step n (Result id branch outcome) (connection_of k) r ≡ (if b then made else kept (call_at (call_id k.number r) k.calls))
-    at_it r b h2 = grind (arith, nat_tests, same_call, call_found)
+    at_it r b is = grind (arith, nat_tests, same_call, call_found)
 
     its_call : (r : ℕ) → is_call id (call_id k.number r) ≡ (id.request == r)
     its_call r = ap (λ b. b && (id.request == r)) (eq-eqb id.conn k.number its)

@@ -1,13 +1,13 @@
 -- What each call of the gateway keeps.
 use Rattle.std.specs.Prelude.{◌≡◌, ◌+◌, ◌<◌, ◌≤◌, ◌∷◌, ◌++◌, ◌==◌, ◌&&◌, ◌||◌, ◌⊎◌, if◌then◌else◌}
-use Rattle.gateway_theory.specs.lemmas.Names.{ℕ, suc, Bool, true, false, List, [], length, Option, None, Some, refl, sym, ap, ◌∙◌, subst, arith, inl, inr, nat_tests, ⊤, All, filter, nat_lt, not, range_with_len, eqb-true, lt-ltb, append-nil, length-append, length-map, All-map, PlanRecord, Outcome, JobValue, job_of, is_of, Coming, ArrivedCall, CallEvent, CallId, arrive, begins, first_ones, is_full, GatewayValue, conn_of, HeldConnection, moment_after, StepFault, Took, Trigger, Drained, HungUp, Reached, calls_kept, is_broken_conn, CallsEnd, HangsUp, Holds, TakesBytes, TakesResult, TakesStarved, arriving_in, back_held, broke, broken_held, dropped, ended, ended_held, entered_held, hears, hung, hung_held, most_begun, late, left_of, lost, lost_held, new_held, next_held, not_fed, read, read_held, result_in, settled, settled_held, unknown, unnoticed, unread, CountsCalls, IsServing, Keeps, KeepsBut, is_silent, Broadcast, Closes, Drains, Feeds, HangsUpAt, MayEnd, Moves, Opens, Reaches, Results, Starves, Tallies, absent, kept_in, there}
+use Rattle.gateway_theory.specs.lemmas.Names.{ℕ, suc, Bool, true, false, List, [], length, Option, None, Some, refl, sym, ap, ◌∙◌, subst, arith, inl, inr, nat_tests, ⊤, All, filter, nat_lt, not, range_with_len, eqb-true, lt-ltb, append-nil, length-append, length-map, All-map, PlanRecord, Outcome, JobValue, job_of, is_of, Coming, ArrivedCall, CallEvent, CallId, arrive, begins, first_ones, is_full, GatewayValue, conn_of, HeldConnection, moment_after, StepFault, Took, Trigger, Drained, HungUp, Reached, calls_kept, is_broken_conn, CallsEnd, HangsUp, Holds, TakesBytes, TakesResult, arriving_in, broke, broken_held, dropped, ended, ended_held, entered_held, hears, hung, hung_held, most_begun, left_of, lost, lost_held, new_held, next_held, not_fed, read, read_held, result_in, settled, settled_held, unknown, unnoticed, unread, CountsCalls, IsServing, Keeps, KeepsBut, is_silent, Broadcast, Closes, Drains, Feeds, HangsUpAt, MayEnd, Moves, Opens, Reaches, Results, Tallies, absent, kept_in, there}
 use Rattle.std.proofs.Common.{Result}
 use Rattle.gateway_model.specs.declared.seen.Seen.{Seen}
 use Rattle.gateway_theory.specs.Tally.{tally_of}
 use Rattle.gateway_theory.specs.lemmas.Cases.{sym_eqb}
 use Rattle.gateway_theory.specs.Held.{came}
 use Rattle.gateway_theory.specs.lemmas.CallsAdd.{unborn_absent, unborn_other}
-use Rattle.gateway_theory.specs.lemmas.Turns.{Grown, grown_back, grown_broken, grown_ended, grown_entered, grown_forgotten, grown_lost, grown_same, grown_settled, grown_then, Turns, broken_at, silent_at, silent_some, turns_born, turns_grown, turns_left, turns_moved, turns_same}
+use Rattle.gateway_theory.specs.lemmas.Turns.{Grown, grown_broken, grown_ended, grown_entered, grown_forgotten, grown_lost, grown_same, grown_settled, grown_then, Turns, broken_at, silent_at, silent_some, turns_born, turns_grown, turns_left, turns_moved, turns_same}
 use Rattle.gateway_theory.specs.lemmas.HeldSteps.{hears_parts, holds_hung}
 
 -- ---- jobs
@@ -82,28 +82,28 @@ opening_keeps v w number o s = keeps_turns (λ c. false) (λ c. false) [] v w (a
 
     -- of the new one nothing can be taken, and nothing could before
     new_turns : (c : ℕ) → v.opened ≡ c → Turns v.opened w.opened c None (Some (new_held v.opened))
-    new_turns c h1 = grind (arith, nat_tests)
+    new_turns c is = grind (arith, nat_tests)
 
     turns : (c : ℕ) (b : Bool) → (v.opened == c) ≡ b → Turns v.opened w.opened c (conn_of c v) (conn_of c w)
     turns c false ne = subst (Turns v.opened w.opened c (conn_of c v)) (sym (o.moves.others c ne)) (turns_born v.opened w.opened c (conn_of c v) (born_same c ne))
     turns c true at = subst (λ x. Turns v.opened w.opened c x (conn_of c w)) (sym (unborn c at)) (subst (Turns v.opened w.opened c None) (sym (opened_now c at)) (new_turns c (eqb-true v.opened c at)))
 
     broken_are : (c : ℕ) → is_broken_conn c w ≡ true → is_broken_conn c v ≡ false → false ≡ true
-    broken_are c h1 h2 = grind (arith, nat_tests)
+    broken_are c is also = grind (arith, nat_tests)
 
 -- of one that is not open nothing closes
 unclosing : (n : ℕ) (v w : GatewayValue) → w ≡ v → KeepsBut (λ c. c == n) (λ c. false) [] v w
 unclosing n v w is = grind (arith, nat_tests, keeps_turns, append-nil, Turns, turns_same)
 
 pub closing_keeps : (n : ℕ) (v w : GatewayValue) (result : Bool) → Closes n v w result → IsServing v → KeepsBut (λ c. c == n) (λ c. false) [] v w
-closing_keeps n v w result h4 h5 = search (arith, nat_tests, unclosing, keeps_turns, append-nil, sym_eqb, Turns, turns_same, eqb-true, lt-ltb, broken_at, broken_others)
+closing_keeps n v w result fact further = search (arith, nat_tests, unclosing, keeps_turns, append-nil, sym_eqb, Turns, turns_same, eqb-true, lt-ltb, broken_at, broken_others)
 
 -- ---- bytes
 
 -- as many calls were begun as are kept more
 fed_sum : (plans : List PlanRecord) (moment : ℕ) (drained : Bool) (bytes : List ℕ) (begun : ℕ) (k : HeldConnection) (then_begun : ℕ) (l : HeldConnection) (jobs : List JobValue) (result : Result ℕ StepFault)
     → TakesBytes plans moment drained bytes begun k then_begun l jobs result → (begun ≤ then_begun) × (then_begun + length k.calls ≡ begun + length l.calls) × (begun < then_begun → then_begun ≤ most_begun)
-fed_sum plans moment drained bytes begun k then_begun l jobs result t = grind (arith, nat_tests, length-map, length-append)
+fed_sum plans moment drained bytes begun k then_begun l jobs result t = search (arith, length-map, length-append)
 
 fed_grown : (plans : List PlanRecord) (moment : ℕ) (drained : Bool) (bytes : List ℕ) (begun : ℕ) (k : HeldConnection) (then_begun : ℕ) (l : HeldConnection) (jobs : List JobValue) (result : Result ℕ StepFault)
     → TakesBytes plans moment drained bytes begun k then_begun l jobs result → Grown k l
@@ -138,7 +138,7 @@ none_silent n v k jobs k_is number_is (inr (goes, own)) c e = by (n == c) refl
     never b = grind (arith, nat_tests)
 
     by : (b : Bool) → (n == c) ≡ b → filter (is_of c) jobs ≡ []
-    by b h1 = grind (arith, nat_tests, own_jobs, silent_at, eqb-true, silent_some, never)
+    by b is = grind (arith, nat_tests, own_jobs, silent_at, eqb-true, silent_some, never)
 
 pub fed_counts : (n : ℕ) (bytes : List ℕ) (v w : GatewayValue) (result : Result ℕ StepFault) → Feeds n bytes v w result → CountsCalls v w
 fed_counts n bytes v w result (absent none r w_is) = grind arith
@@ -163,7 +163,7 @@ fed_keeps n bytes v w result (there k l jobs k_is t m w_is) s = keeps_turns (λ 
     own = by (fed_jobs v.plans v.moment v.drained bytes v.begun k w.begun l jobs result t)
       where
         by : (jobs ≡ []) ⊎ ((hears k ≡ true) × All (λ (j : JobValue). j.call.conn ≡ k.number) jobs) → (jobs ≡ []) ⊎ (((k.closed || k.broken) ≡ false) × All (λ (j : JobValue). j.call.conn ≡ k.number) jobs)
-        by h0 = grind (arith, nat_tests)
+        by fact = grind (arith, nat_tests)
 
 -- ---- a hang-up
 
@@ -214,12 +214,7 @@ taken_grown moment id branch outcome k l jobs took (lost i found out live t forg
 -- of one that is closed or broken no job starts
 taken_jobs : (moment : ℕ) (id : CallId) (branch : ℕ) (outcome : Outcome) (k l : HeldConnection) (jobs : List JobValue) (took : Took) → TakesResult moment id branch outcome k l jobs took → Holds k
     → (jobs ≡ []) ⊎ (((k.closed || k.broken) ≡ false) × All (λ (j : JobValue). j.call.conn ≡ k.number) jobs)
-taken_jobs moment id branch outcome k l jobs took h8 h9 = grind (arith, nat_tests)
-
-starved_grown : (id : CallId) (branch : ℕ) (k l : HeldConnection) (took : Took) → TakesStarved id branch k l took → Grown k l
-starved_grown id branch k l took (unknown out t l_is) = subst (Grown k) (sym l_is) (grown_same k k refl (λ e. e) refl)
-starved_grown id branch k l took (late i found out dead t forgets) = grown_then k (back_held i branch k) l (grown_back i branch k) (grown_forgotten id (back_held i branch k) l forgets)
-starved_grown id branch k l took (lost i found out live t forgets) = grown_then k (lost_held i branch k) l (grown_lost i branch k) (grown_forgotten id (lost_held i branch k) l forgets)
+taken_jobs moment id branch outcome k l jobs took fact further = grind (arith, nat_tests)
 
 -- what a result, or what is known of none, keeps
 result_by : (n : ℕ) (seen : Seen) (v w : GatewayValue) (k l : HeldConnection) (jobs : List JobValue) → conn_of n v ≡ Some k → Moves n (left_of l) v w → Tallies seen v w
@@ -237,8 +232,3 @@ pub result_keeps : (id : CallId) (branch : ℕ) (outcome : Outcome) (v w : Gatew
 result_keeps id branch outcome v w took (absent none t tally w_is) s = unknown_by id.conn took.seen v w tally w_is
 result_keeps id branch outcome v w took (there k l jobs k_is t m tally w_is) s = result_by id.conn took.seen v w k l jobs k_is m tally (ap (λ (x : GatewayValue). x.plans) w_is) (ap (λ (x : GatewayValue). x.opened) w_is)
     (ap (λ (x : GatewayValue). x.begun) w_is) (ap (λ (x : GatewayValue). x.jobs) w_is) (taken_grown v.moment id branch outcome k l jobs took t (s.each id.conn k k_is).holds) (taken_jobs v.moment id branch outcome k l jobs took t (s.each id.conn k k_is).holds) s
-
-pub starved_keeps : (id : CallId) (branch : ℕ) (v w : GatewayValue) (took : Took) → Starves id branch v w took → IsServing v → KeepsBut (λ c. false) (λ c. c == id.conn) (took.seen ∷ []) v w
-starved_keeps id branch v w took (absent none t tally w_is) s = unknown_by id.conn took.seen v w tally w_is
-starved_keeps id branch v w took (there k l k_is t m tally w_is) s = result_by id.conn took.seen v w k l [] k_is m tally (ap (λ (x : GatewayValue). x.plans) w_is) (ap (λ (x : GatewayValue). x.opened) w_is)
-    (ap (λ (x : GatewayValue). x.begun) w_is) (ap (λ (x : GatewayValue). x.jobs) w_is ∙ sym (append-nil v.jobs)) (starved_grown id branch k l took t) (inl refl) s

@@ -1,6 +1,6 @@
 -- What is known of the gateway, by the events that it stands for.
 use Rattle.std.specs.Prelude.{◌≡◌, ◌≤◌, ◌<◌, ◌∷◌, ◌++◌, ◌&&◌, if◌then◌else◌}
-use Rattle.gateway_theory.specs.lemmas.Names.{ℕ, zero, suc, Bool, true, false, List, [], length, Option, None, Some, refl, sym, ap, ◌∙◌, subst, arith, append_assoc, ⊎_elim, nat_tests, not, slice_index_or, nat_lt, option_map, count_by, option_map_or, cases_Bool, cases_eq, cond_both, and_parts, lt-ltb, take_all, CallEvent, CallId, CallRecord, last_event, LiveStands, MayLive, Occurrence, ArrivedCall, Past, branches, call, count_below, decides, is_out, marked, outs, started, branch_deadlines, call_id, is_broken, own_events, record_of, front, queued_entries, Live, ConnectionValue, shown_of, ReplyEntry, JobValue, record_now, IsKnown, own, without_breaks, Placed, occurrences, AllStand, Now, by_events, Occurs, History, CoreValue, HasConns, Lives, Served}
+use Rattle.gateway_theory.specs.lemmas.Names.{ℕ, zero, suc, Bool, true, false, List, [], length, Option, None, Some, refl, sym, ap, ◌∙◌, subst, arith, append_assoc, ⊎_elim, nat_tests, not, slice_index_or, nat_lt, option_map, count_by, option_map_or, cases_Bool, cases_eq, cond_both, and_parts, lt-ltb, take_all, CallEvent, CallId, CallRecord, last_event, LiveStands, MayLive, Occurrence, ArrivedCall, Past, branches, call, count_below, decides, is_out, marked, outs, branch_deadlines, call_id, is_broken, own_events, record_of, front, queued_entries, Live, ConnectionValue, shown_of, ReplyEntry, JobValue, record_now, IsKnown, own, without_breaks, Placed, occurrences, AllStand, Now, by_events, Occurs, History, CoreValue, HasConns, Lives, Served}
 use Rattle.std.proofs.Common.{append-nil}
 use Rattle.gateway_model.specs.Record.{answers_among, is_decided, is_ending, is_lawful}
 use Rattle.gateway_theory.specs.lemmas.LimitLemmas.{count_less, out_started, outs_limit}
@@ -97,11 +97,8 @@ lawful_now id l out os s =
 -- ---- two pasts that are alike to a connection
 
 module _ (c k : ℕ) (p q : Past) (h : Alike c p q) where
-  started_alike : started (call_id c k) p ≡ started (call_id c k) q
-  started_alike = rw (h.began_is k, h.call_is k, h.answers_are k) refl
-
   deadlines_alike : branch_deadlines (call_id c k) p ≡ branch_deadlines (call_id c k) q
-  deadlines_alike = grind (arith, nat_tests, started_alike, map_range, lt-ltb)
+  deadlines_alike = grind (arith, nat_tests, map_range, lt-ltb)
 
   record_alike : record_now (call_id c k) p ≡ record_now (call_id c k) q
   record_alike = grind (arith, nat_tests, deadlines_alike)
@@ -116,7 +113,7 @@ module _ (n : Now) (conns : ℕ → ConnectionValue) (opened : ℕ) (taken : ℕ
   broken_stands c still = (h.each c).broken_is ∙ ap (λ b. not b && is_broken (conns c).number (marked (own c os))) still ∙ ap (λ d. is_broken d (marked (own c os))) (h.numbers c) ∙ sym (own_alike c os).broken_is
 
   still : (a b : Bool) → (a && not b) ≡ true → b ≡ false
-  still a b h2 = grind (arith, nat_tests)
+  still a b is = grind (arith, nat_tests)
 
   pub broken_shown : (c : ℕ) → (shown_of opened conns waiting).is_open c ≡ true → (shown_of opened conns waiting).is_broken c ≡ is_broken c (marked os)
   broken_shown c there = ap (λ b. b && (conns c).broken) there ∙ broken_stands c (still (nat_lt c opened) (conns c).closed there)

@@ -1,6 +1,6 @@
 -- The public clauses of the gateway's calls, by the exact step of each call and by what holds between two calls.
 use Rattle.std.specs.Prelude.{◌≡◌, ◌+◌, ◌≤◌, ◌∷◌, ◌++◌, ◌==◌, if◌then◌else◌}
-use Rattle.gateway_theory.specs.lemmas.Names.{ℕ, zero, suc, map, Bool, true, false, List, [], length, Option, None, Some, Ok, Err, refl, sym, ap, ◌∙◌, subst, arith, nat_tests, ⊤, IfOk, IfSome, OnOk, is_some, option_map, option_to_list, le-ltb, HasRead, PlanRecord, Outcome, Occurs, open_connections, History, after_event, no_history, IsKnown, own, length-append, length-map, arrivals, count_below, is_broken, marked, queued_entries, Placed, occurrences, Event, BranchResult, CallId, ReplyValue, RequestLaws, HandedJob, StepFault, Took, not_kept, GatewayValue, connection, conn_of, shown, HeldConnection, call_in, core_of, is_broken_conn, is_open_conn, next_reply, one_if_open, open_count, untaken_of, new_reader, CountsCalls, IsServing, Keeps, KeepsBut, NotListening, TakesOnly, TakesSome, TellsStep, WouldBegin, Closes, Drains, Feeds, HangsUpAt, Opens, Reaches, Results, Starves, TakesJob, TakesReplyAt, first_gateway, open_in, AddsEvent, AddsOpening, HandsJobs, HandsReply, IsWanted, LeavesLived, LeavesReplied, OpensFew, TakesEvent, TakesOneOf, TakesOpening, TellsTook}
+use Rattle.gateway_theory.specs.lemmas.Names.{ℕ, zero, suc, map, Bool, true, false, List, [], length, Option, None, Some, Ok, Err, refl, sym, ap, ◌∙◌, subst, arith, nat_tests, ⊤, IfOk, IfSome, OnOk, is_some, option_map, option_to_list, le-ltb, HasRead, PlanRecord, Outcome, Occurs, open_connections, History, after_event, no_history, IsKnown, own, length-append, length-map, arrivals, count_below, is_broken, marked, queued_entries, Placed, occurrences, Event, BranchResult, CallId, ReplyValue, RequestLaws, HandedJob, StepFault, Took, not_kept, GatewayValue, connection, conn_of, shown, HeldConnection, call_in, core_of, is_broken_conn, is_open_conn, next_reply, one_if_open, open_count, untaken_of, new_reader, CountsCalls, IsServing, Keeps, KeepsBut, NotListening, TakesOnly, TakesSome, TellsStep, WouldBegin, Closes, Drains, Feeds, HangsUpAt, Opens, Reaches, Results, Starves, TakesJob, TakesReplyAt, first_gateway, open_in, AddsEvent, AddsOpening, HandsJobs, HandsReply, IsWanted, LeavesLived, LeavesReplied, OpensFew, TakesEvent, TakesOneOf, TakesOpening, TellsTook, Answer}
 use Rattle.std.proofs.Common.{Result}
 use Rattle.gateway_theory.specs.lemmas.OwnLemmas.{own_alike}
 use Rattle.gateway_model.specs.declared.event.Event.TheVariants.{Closing, Drain, HangUp, Moment, Opening}
@@ -9,11 +9,12 @@ use Rattle.gateway_theory.specs.lemmas.ServedOpens.{never_broke, grown, occurs_b
 use Rattle.gateway_theory.specs.Served.{Adds, Lives, Served}
 use Rattle.gateway_theory.specs.Told.{TakesBytes}
 use Rattle.gateway_theory.specs.lemmas.Conns.{open_there, shut_absent, shut_there, sum_alike, sum_below, sum_values}
-use Rattle.gateway_theory.specs.lemmas.Keeps.{all_keeps, closing_keeps, draining_keeps, fed_counts, fed_keeps, hanging_keeps, opening_keeps, reaching_keeps, result_keeps, starved_keeps}
+use Rattle.gateway_theory.specs.lemmas.Keeps.{all_keeps, closing_keeps, draining_keeps, fed_counts, fed_keeps, hanging_keeps, opening_keeps, reaching_keeps, result_keeps}
 use Rattle.gateway_theory.specs.lemmas.PiecesAdd.{feeds_one as one_fed, feeds_stand}
 use Rattle.gateway_theory.specs.lemmas.Knowing.{broken_shown, queue_shown}
 use Rattle.gateway_theory.specs.lemmas.Taken.{first_told, its_told, job_hands, job_leaves, none_told, only_told, reply_hands, reply_leaves}
-use Rattle.gateway_theory.specs.lemmas.Tells.{fed_begins, fed_listens, fed_takes, fed_tells, hung_exhausted, hung_tells, result_tells, starved_tells, wanted_told}
+use Rattle.gateway_theory.specs.lemmas.Tells.{fed_begins, fed_listens, fed_takes, fed_tells, hung_exhausted, hung_tells, result_tells, wanted_told}
+use Rattle.gateway_theory.specs.lemmas.ServingSteps.{starves_as}
 use Rattle.gateway_theory.specs.Core as core
 use Rattle.gateway_theory.specs.lemmas.BroadcastAdds as broadcasts
 use Rattle.gateway_theory.specs.lemmas.CallsAdd as calls
@@ -47,12 +48,12 @@ known v h occurred s o = core_known.known (core_of v) h occurred s o
 pub unopened_unbroken : (v : GatewayValue) (h : History) (lived : List Placed) → Lives v h lived → (c : ℕ) → v.opened ≤ c → is_broken c (marked (occurrences lived)) ≡ false
 unopened_unbroken v h lived l c le =
     let new = (l.conns.each c).unopened (le-ltb c v.opened le) in
-    let stands = (l.stands.each c).conn new.1 in
+    let stands = l.stands.each c in
     let size : length (map Some (h.taken c) ++ (connection c v).slots) ≡ arrivals c (marked (own c (occurrences lived))) =
-    stands.slots_stand.size_is ∙ ap (λ d. arrivals d (marked (own c (occurrences lived)))) (l.stands.numbers c) in
+    (stands.slots_stand new.1).size_is ∙ ap (λ d. arrivals d (marked (own c (occurrences lived)))) (l.stands.numbers c) in
     let long = length-append (map Some (h.taken c)) (connection c v).slots in
     let taken : length (map Some (h.taken c)) ≡ length (h.taken c) = length-map (h.taken c) Some in
-    let none : arrivals c (marked (own c (occurrences lived))) ≡ 0 = omega (arith, size, long, taken, stands.taken_is, new.0) in
+    let none : arrivals c (marked (own c (occurrences lived))) ≡ 0 = omega (arith, size, long, taken, stands.taken_is new.1, new.0) in
     never_broke h.opened c h.events lived (let n = l.conns.count_is in omega (arith, n, le)) ((own_alike c (occurrences lived)).arrivals_are ∙ none) l.breaks
 
 -- of an open connection, where this was lived
@@ -214,17 +215,17 @@ module _ (id : CallId) (branch : ℕ) (outcome : Outcome) (v w : GatewayValue) (
 
 module _ (id : CallId) (branch : ℕ) (v w : GatewayValue) (took : Took) (r : Starves id branch v w took) (s : IsServing v) where
   pub starves_adds : (outcome : Outcome) → AddsEvent (BranchResult id.conn id.request branch outcome) v w
-  starves_adds outcome h = calls.starves_adds id branch outcome v w took h r s
+  starves_adds outcome h = calls.results_adds id branch outcome v w took h (starves_as id branch outcome v w took r) s
 
   pub starves_stands : (outcome : Outcome) → TakesEvent (BranchResult id.conn id.request branch outcome) v w
   starves_stands outcome h served =
       core_adding.served_event (BranchResult id.conn id.request branch outcome) h (core_of v) (core_of w) (starves_adds outcome h).plans_are (starves_adds outcome h) served
 
   pub starves_tells : TellsTook id branch took v w
-  starves_tells = starved_tells id branch v w took r s
+  starves_tells = result_tells id branch (Answer []) v w took (starves_as id branch (Answer []) v w took r) s
 
   pub starves_keeps : KeepsBut (λ c. false) (λ c. c == id.conn) (took.seen ∷ []) v w
-  starves_keeps = starved_keeps id branch v w took r s
+  starves_keeps = result_keeps id branch (Answer []) v w took (starves_as id branch (Answer []) v w took r) s
 
 -- ---- what is taken
 

@@ -1,6 +1,7 @@
 -- What is not kept any more leaves what stands, and what one connection's step makes of all.
-use Rattle.std.specs.Prelude.{◌≡◌, ◌∷◌, ◌++◌, ◌<◌, ◌&&◌, ◌==◌, ◌||◌, if◌then◌else◌}
-use Rattle.gateway_theory.specs.lemmas.Names.{ℕ, Bool, true, false, List, length, None, refl, sym, ap, ◌∙◌, subst, arith, zero, suc, [], Option, Some, nat_tests, not, All, slice_index_or, ReplyEntry, Event, by_events, Before, Occurs, History, JobValue, Occurrence, own, Placed, occurrences, has_out, AllStand, ConnectionStands, forgets, is_shut_value, ConnectionValue, not_kept, KeptValue, call_at, GatewayValue, conn_of, connection, value_of, HeldConnection, connection_of, Adds, CoreValue, HasConns, Lives, at_place, then_came, list_any, eqb-true, lt-ltb, is_call, CallId, no_call, core_of, stream_of, Holds, is_gone, left_of, stream_in, IsServing, Moves}
+use Rattle.std.specs.Prelude.{◌≡◌, ◌∷◌, ◌++◌, ◌<◌, ◌==◌, if◌then◌else◌}
+use Rattle.gateway_theory.specs.lemmas.Cases.{and_off}
+use Rattle.gateway_theory.specs.lemmas.Names.{ℕ, Bool, true, false, List, length, None, refl, sym, ap, ◌∙◌, subst, arith, zero, suc, [], Option, Some, nat_tests, All, slice_index_or, ReplyEntry, Event, by_events, Before, Occurs, History, JobValue, Occurrence, own, Placed, occurrences, has_out, AllStand, ConnectionStands, forgets, is_shut_value, ConnectionValue, not_kept, KeptValue, call_at, GatewayValue, conn_of, connection, value_of, HeldConnection, connection_of, Adds, CoreValue, HasConns, Lives, at_place, then_came, list_any, eqb-true, lt-ltb, is_call, CallId, no_call, core_of, stream_of, Holds, is_gone, left_of, stream_in, IsServing, Moves, or_parts}
 use Rattle.gateway_theory.specs.lemmas.Standing.{call_forgotten, connection_forgotten}
 
 -- of that connection a call is not kept any more, or it is not kept itself
@@ -25,7 +26,7 @@ fades_stands v w taken os (call_fades r dead back is) s = subst (λ x. Connectio
 fades_stands v w taken os (conn_fades shut dead back is) s = subst (λ x. ConnectionStands x taken os) (sym is) (connection_forgotten v taken os shut dead back s)
 
 fades_number : (v w : ConnectionValue) → FadesTo v w → w.number ≡ v.number
-fades_number v w h2 = grind (arith, nat_tests)
+fades_number v w fact = grind (arith, nat_tests)
 
 module _ (v w : CoreValue) (f : Fades v w) where
   pub fades_conns : (opened : List ℕ) (events : Before) → HasConns v opened events → HasConns w opened events
@@ -66,11 +67,7 @@ dead_call id [] a = refl
 dead_call id (c ∷ calls) a = by (is_call c.id id) (a 0 no_call (omega arith)) (dead_call id calls (λ i d lt. a (suc i) d (omega (arith, lt))))
   where
     by : (b : Bool) → c.call.live ≡ None → (call_at id calls).live ≡ None → (if b then c.call else call_at id calls).live ≡ None
-    by b h1 h2 = grind (arith, nat_tests)
-
-or_parts : (a b : Bool) → (a || b) ≡ false → (a ≡ false) × (b ≡ false)
-or_parts false b e = (refl, e)
-or_parts true b e = absurd (cc)
+    by b is also = grind (arith, nat_tests)
 
 -- no branch is out
 pub none_out : (out : List Bool) (i : ℕ) → list_any (λ b. b) out ≡ false → slice_index_or out i false ≡ false
@@ -85,14 +82,11 @@ out_of_none id i (c ∷ calls) e =
     by (is_call c.id id) (none_out c.call.out i parts.0) (out_of_none id i calls parts.1)
   where
     by : (b : Bool) → has_out c.call i ≡ false → has_out (call_at id calls) i ≡ false → has_out (if b then c.call else call_at id calls) i ≡ false
-    by b h1 h2 = grind (arith, nat_tests)
-
-gone_parts : (a b : Bool) → (a && not b) ≡ true → (a ≡ true) × (b ≡ false)
-gone_parts a b h2 = grind (arith, nat_tests)
+    by b is also = grind (arith, nat_tests)
 
 -- what stays under its number is it, or nothing, once it is gone
 pub left_fades : (opened c : ℕ) (l : HeldConnection) → Holds l → l.number ≡ c → c < opened → FadesTo (connection_of l) (value_of opened c (left_of l))
-left_fades opened c l h its born = grind (arith, nat_tests, gone_parts, dead_call, out_of_none, lt-ltb)
+left_fades opened c l h its born = grind (arith, nat_tests, and_off, dead_call, out_of_none, lt-ltb)
 
 -- ---- the number of each
 
@@ -136,7 +130,7 @@ module _ (c : ℕ) (l : HeldConnection) (v w : GatewayValue) (u : CoreValue) (m 
       each d false ne = same (ap (λ n. value_of n d (conn_of d w)) b.opened_is ∙ ap (value_of v.opened d) (m.others d ne) ∙ sym (b.others_are d ne))
 
       stream : (d : ℕ) → is_shut_value (u.conns d) ≡ false → (x : Bool) → (c == d) ≡ x → stream_of (conn_of d w) ≡ u.streams d
-      stream d h1 x h3 = grind (arith, nat_tests)
+      stream d is x also = grind (arith, nat_tests)
 
 -- it stays under its number, or is gone
 module _ (c : ℕ) (l : HeldConnection) (v w : GatewayValue) (u : CoreValue) (m : Moves c (left_of l) v w) (b : Became c l v w u) (holds : Holds l) (its : l.number ≡ c) (born : c < v.opened) where
@@ -159,7 +153,7 @@ module _ (c : ℕ) (l : HeldConnection) (v w : GatewayValue) (u : CoreValue) (m 
       each d false ne = same refl
 
       stream : (d : ℕ) → is_shut_value (u.conns d) ≡ false → (x : Bool) → (c == d) ≡ x → (if x then stream_in l else u.streams d) ≡ u.streams d
-      stream d h1 x h3 = grind (arith, nat_tests)
+      stream d is x also = grind (arith, nat_tests)
 
   from_midway : Fades midway (core_of w)
   from_midway = record {
@@ -178,10 +172,10 @@ module _ (c : ℕ) (l : HeldConnection) (v w : GatewayValue) (u : CoreValue) (m 
       each d false ne = same (ap (λ n. value_of n d (conn_of d w)) b.opened_is ∙ ap (value_of v.opened d) (m.others d ne) ∙ sym (b.others_are d ne))
 
       left_stream : (x : Bool) → is_gone l ≡ x → l.closed ≡ false → stream_of (left_of l) ≡ stream_in l
-      left_stream x h1 h2 = grind (arith, nat_tests)
+      left_stream x is also = grind (arith, nat_tests)
 
       stream : (d : ℕ) → is_shut_value (if c == d then connection_of l else u.conns d) ≡ false → (x : Bool) → (c == d) ≡ x → stream_of (conn_of d w) ≡ (if x then stream_in l else u.streams d)
-      stream d h1 x h3 = grind (arith, nat_tests)
+      stream d is x also = grind (arith, nat_tests)
 
   pub left_adds : (opened : List ℕ) (e : Event) (h : History) (first : CoreValue) → Adds opened e h first u → Adds opened e h first (core_of w)
   left_adds opened e h first a = fades_adds midway (core_of w) from_midway opened e h first (fades_adds u midway to_midway opened e h first a)

@@ -1,10 +1,12 @@
--- What one event more makes of the stream of a connection.
-use Rattle.std.specs.Prelude.{◌≡◌, ◌<◌, ◌∷◌, ◌++◌}
-use Rattle.gateway_theory.specs.lemmas.Names.{ℕ, true, false, List, [], length, refl, arith, nat_tests, not, lt-ltb, eq-eqb, and_left, Event, Piece, Before, connections, hung_up, is_closing_of, is_open, listens, stream, succeeds}
+-- One event more, and one more opening that succeeds behind some events.
+use Rattle.std.specs.Prelude.{◌≡◌, ◌<◌, ◌∷◌, ◌++◌, ◌≤◌}
+use Rattle.gateway_theory.specs.lemmas.Names.{ℕ, true, false, List, [], length, refl, arith, nat_tests, not, lt-ltb, eq-eqb, and_left, Event, Piece, Before, connections, hung_up, is_closing_of, is_open, listens, stream, succeeds, ap, ◌∙◌, open_connections, count_below}
 use Rattle.std.proofs.Math.Bool.{and-true, or-false}
 use Rattle.gateway_model.specs.declared.event.Event.TheVariants.{Opening, HangUp, Closing}
 use Rattle.gateway_theory.specs.lemmas.Cases.{and_false, or_true}
-use Rattle.gateway_theory.specs.lemmas.ServedOpens.{unopened_shut as unborn_open, unopened_hung as unborn_hung, unopened_text as unborn_stream}
+use Rattle.gateway_theory.specs.lemmas.ServedOpens.{unopened_shut as unborn_open, unopened_hung as unborn_hung, unopened_text as unborn_stream, grown}
+use Rattle.gateway_theory.specs.lemmas.CutLemmas.{IsSame, same_before}
+use Rattle.gateway_theory.specs.lemmas.SlotLemmas.{count_same}
 
 -- ---- a connection that was opened before
 
@@ -45,3 +47,14 @@ born_open opened es succeeds_here = grind arith
 
 pub born_stream : (opened : List ℕ) (es : Before) → stream opened (connections opened es) (Opening ∷ es) ≡ []
 born_stream opened es = grind (arith, nat_tests, deaf_stream, shut_deaf, unborn_open, unborn_stream)
+
+pub same_openings : (opened : List ℕ) (place : ℕ) (es : Before) → ((other : ℕ) → succeeds opened other ≡ true → other < place) → length es ≤ place
+    → IsSame opened (opened ++ place ∷ []) es es
+same_openings opened place es below le = same_before opened (opened ++ place ∷ []) place es le (grown opened place below)
+
+pub same_count : (opened : List ℕ) (place : ℕ) (es : Before) → ((other : ℕ) → succeeds opened other ≡ true → other < place) → length es ≤ place
+    → open_connections (opened ++ place ∷ []) es ≡ open_connections opened es
+same_count opened place es below le =
+    let same : IsSame opened (opened ++ place ∷ []) es es = same_openings opened place es below le in
+    ap (λ n. count_below n (λ c. is_open (opened ++ place ∷ []) c es)) same.connections_are
+    ∙ count_same (connections opened es) (λ c. is_open (opened ++ place ∷ []) c es) (λ c. is_open opened c es) (λ c within. same.open_is c)

@@ -5,7 +5,7 @@ use Rattle.gateway_model.specs.declared.call_event.CallEvent.TheVariants.{Draine
 use Rattle.gateway_theory.specs.lemmas.Cases.{and_false, and_true, or_false, or_none}
 use Rattle.gateway_theory.specs.lemmas.Frame.{not_started}
 use Rattle.gateway_theory.specs.lemmas.LimitLemmas.{out_started}
-use Rattle.gateway_theory.specs.lemmas.Readings.{none_by}
+use Rattle.gateway_theory.specs.lemmas.StandsLemmas.{none_by}
 
 -- ---- functions that agree
 
@@ -46,9 +46,6 @@ started_by b o a = if b then option_map_or (λ (x : ArrivedCall). min (length x.
 started_like : (b d : Bool) (o u : Option ArrivedCall) (a e : ℕ) → b ≡ d → o ≡ u → a ≡ e → started_by b o a ≡ started_by d u e
 started_like b d o u a e x y z = ap (λ t. started_by t o a) x ∙ ap (λ t. started_by d t a) y ∙ ap (started_by d u) z
 
-branches_same : (c : ℕ) (p q : Past) → Alike c p q → (k : ℕ) → branches (call_id c k) p ≡ branches (call_id c k) q
-branches_same c p q h k = ap (λ o. option_map_or (λ (x : ArrivedCall). length x.plan.branches) o 0) (h.call_is k)
-
 few_same : (c : ℕ) (p q : Past) → Alike c p q → undecided_calls c p ≡ undecided_calls c q
 few_same c p q h = grind arith
 
@@ -75,7 +72,7 @@ counts_same c p q h (Closing d) v = refl
 counts_same c p q h (Break d) v = refl
 
 crowds_same : (c : ℕ) (p q : Past) → Alike c p q → (o : Occurrence) → is_visible c o ≡ true → crowds o p ≡ crowds o q
-crowds_same c p q h3 o h5 = grind (arith, nat_tests, eqb-true, few_same)
+crowds_same c p q fact o is = grind (arith, nat_tests, eqb-true, few_same)
 
 abbrev mark : Occurrence → Bool → Bool → Mark
 mark o counted crowded = record { what = o; counted = counted; crowded = crowded }
@@ -84,9 +81,6 @@ mark_same : (c : ℕ) (p q : Past) → Alike c p q → (o : Occurrence) → is_v
 mark_same c p q h o v = ap (λ b. mark o b (crowds o p)) (counts_same c p q h o v) ∙ ap (λ b. mark o (counts o q) b) (crowds_same c p q h o v)
 
 -- ---- the same mark more
-
-coming_same : (c : ℕ) (p q : Past) → Alike c p q → (k : ℕ) (m : Mark) → coming_now (call_id c k) m p ≡ coming_now (call_id c k) m q
-coming_same c p q h k m = ap (λ n. if n == k then coming_on c m.what (is_broken c p) else None) h.arrivals_are ∙ ap (λ b. if arrivals c q == k then coming_on c m.what b else None) h.broken_is
 
 asked_same : (c : ℕ) (p q : Past) → Alike c p q → (k : ℕ) (m : Mark) → asked_now (call_id c k) m p ≡ asked_now (call_id c k) m q
 asked_same c p q h k m = cc
@@ -120,7 +114,7 @@ outs_same : (c : ℕ) (p q : Past) → Alike c p q → (k : ℕ) (plan : PlanRec
 outs_same c p q h k plan = grind (arith, nat_tests, map_range, below, out_started)
 
 event_same : (c : ℕ) (p q : Past) → Alike c p q → (k : ℕ) (a : ArrivedCall) (o : Occurrence) (counted : Bool) → event_by (call_id c k) a o counted p ≡ event_by (call_id c k) a o counted q
-event_same c p q h3 k a o counted = grind (arith, nat_tests, outs_same)
+event_same c p q fact k a o counted = grind (arith, nat_tests, outs_same)
 
 event_now : (c : ℕ) (p q : Past) → Alike c p q → (k : ℕ) (m : Mark) → own_event (call_id c k) m p ≡ own_event (call_id c k) m q
 event_now c p q h k m = grind (arith, nat_tests, asked_same, map_or_same, event_same)
@@ -129,7 +123,7 @@ abbrev deciding_by : ℕ → ℕ → Option CallEvent → Option CallEvent
 deciding_by answered n o = option_and_then (λ e. if decides answered n e then Some e else None) o
 
 decided_same : (c : ℕ) (p q : Past) → Alike c p q → (k : ℕ) (m : Mark) → decided (call_id c k) (m ∷ p) ≡ decided (call_id c k) (m ∷ q)
-decided_same c p q h k m = search (arith, nat_tests, branches_same, event_now)
+decided_same c p q h k m = search (arith, nat_tests, event_now)
 
 events_same : (c : ℕ) (p q : Past) → Alike c p q → (k : ℕ) (m : Mark) → own_events (call_id c k) (m ∷ p) ≡ own_events (call_id c k) (m ∷ q)
 events_same c p q h k m = grind (arith, nat_tests, event_now)
@@ -150,7 +144,7 @@ deadlines_same : (c : ℕ) (p q : Past) → Alike c p q → (k : ℕ) (m : Mark)
 deadlines_same c p q h k m = grind (arith, nat_tests, all_deadlines)
 
 same_more : (c : ℕ) (p q : Past) (m : Mark) → Alike c p q → Alike c (m ∷ p) (m ∷ q)
-same_more c p q m h = search (arith, nat_tests, call_same, began_same, answers_same, out_same, when_same, decided_same, events_same, deadlines_same, coming_same)
+same_more c p q m h = search (arith, nat_tests, call_same, began_same, answers_same, out_same, when_same, decided_same, events_same, deadlines_same)
 
 -- ---- a mark more that is not visible
 
@@ -165,7 +159,7 @@ record Quiet (c : ℕ) (o : Occurrence) : Type 0 where
   no_event : (k : ℕ) (a : ArrivedCall) (counted : Bool) (past : Past) → event_by (call_id c k) a o counted past ≡ None
 
 quiet_of : (c : ℕ) (o : Occurrence) → is_visible c o ≡ false → Quiet c o
-quiet_of c o h2 = grind (arith, nat_tests)
+quiet_of c o is = grind (arith, nat_tests)
 
 max_zero : (n m : ℕ) → m ≡ 0 → max n m ≡ n
 max_zero n m e = grind (arith, e)
@@ -287,7 +281,7 @@ unbroken_queue c os e = own_queue c os ∙ sym (ap (λ xs. queued_entries c (mar
 -- ---- all that starts
 
 unseen_jobs : (c : ℕ) (o : Occurrence) (m : Mark) (past : Past) → is_visible c o ≡ false → filter (is_of c) (jobs_by o m past) ≡ []
-unseen_jobs c o m past h4 = grind (arith, nat_tests, none_by)
+unseen_jobs c o m past is = grind (arith, nat_tests, none_by)
 
 -- the jobs of a connection are by what is visible to it
 pub own_started : (c : ℕ) (os : List Occurrence) → filter (is_of c) (jobs (marked os)) ≡ filter (is_of c) (jobs (marked (own c os)))

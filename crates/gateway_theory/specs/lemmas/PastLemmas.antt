@@ -1,7 +1,19 @@
--- What stands in the past stays, whatever comes later.
-use Rattle.std.specs.Prelude.{◌≡◌, ◌+◌, ◌≤◌, ◌∷◌, ◌++◌}
-use Rattle.gateway_theory.specs.lemmas.Names.{ℕ, zero, suc, Bool, List, [], map, length, Option, None, Some, refl, sym, ap, arith, append_assoc, nat_tests, length-map-range_with_len, append-nil, map-append, length-map, flat_map, option_and_then, range_with_len, CallId, Coming, CallEvent, Mark, Past, ArrivedCall, call, decided, arrivals, ReplyEntry, came, entry_by, entry, front, queued_entries, queued, IsPrefixOf, replies}
+-- What stands in the past stays, whatever comes later; and nothing is there of a request before it has come.
+use Rattle.std.specs.Prelude.{◌≡◌, ◌≤◌, ◌∷◌, ◌+◌, ◌++◌}
+use Rattle.gateway_theory.specs.lemmas.Names.{false, [], None, refl, arith, CallId, Past, call, arrivals, began, decided, came, own_events, ℕ, zero, suc, Bool, List, map, length, Option, Some, sym, ap, append_assoc, nat_tests, length-map-range_with_len, append-nil, map-append, length-map, flat_map, option_and_then, range_with_len, Coming, CallEvent, Mark, ArrivedCall, ReplyEntry, entry_by, entry, front, queued_entries, queued, IsPrefixOf, replies}
 use Rattle.std.proofs.lemmas.Grind.{flat_map-append}
+
+-- nothing of a request is there before it comes
+pub record Unborn (id : CallId) (past : Past) : Type 0 where
+  pub no_call : call id past ≡ None
+  pub not_begun : began id past ≡ false
+  pub not_came : came id past ≡ None
+  pub no_events : own_events id past ≡ []
+  pub undecided : decided id past ≡ None
+
+pub unborn : (id : CallId) (past : Past) → arrivals id.conn past ≤ id.request → Unborn id past
+unborn id [] le = record { no_call = refl; not_begun = refl; not_came = refl; no_events = refl; undecided = refl }
+unborn id (m ∷ past) le = search (arith, unborn id past)
 
 pub call_stays : (id : CallId) (m : Mark) (past : Past) (c : ArrivedCall) → call id past ≡ Some c → call id (m ∷ past) ≡ Some c
 call_stays id m past c e = rw e refl
@@ -12,7 +24,7 @@ decided_stays id m past e d = rw d refl
 
 entry_of : (id : CallId) (m : Mark) (past : Past) (x : ReplyEntry) (o : Option (Coming × Bool))
     → came id past ≡ o → option_and_then (entry_by id past) o ≡ Some x → entry id (m ∷ past) ≡ Some x
-entry_of id m past x o h5 h6 = grind (arith, nat_tests)
+entry_of id m past x o is also = grind (arith, nat_tests)
 
 -- what a request is answered by stays
 pub entry_stays : (id : CallId) (m : Mark) (past : Past) (x : ReplyEntry) → entry id past ≡ Some x → entry id (m ∷ past) ≡ Some x
@@ -46,12 +58,9 @@ front_grows f g stays k (suc n) (suc m) le =
     front_cons g k (f k) (map f (range_with_len (k + 1) n)) (map g (range_with_len (k + 1) m)) (stays k)
     (front_grows f g stays (k + 1) n m (omega arith))
 
-arrivals_grow : (conn : ℕ) (m : Mark) (past : Past) → arrivals conn past ≤ arrivals conn (m ∷ past)
-arrivals_grow conn m past = grind arith
-
 -- one more occurrence only adds to the arrivals that are queued
 pub queued_entries_grow : (conn : ℕ) (m : Mark) (past : Past) → IsPrefixOf (queued_entries conn past) (queued_entries conn (m ∷ past))
-queued_entries_grow conn m past = grind (arith, nat_tests, front_grows, entry_stays, arrivals_grow)
+queued_entries_grow conn m past = grind (arith, nat_tests, front_grows, entry_stays)
 
 queued_grows : (conn : ℕ) (m : Mark) (past : Past) → IsPrefixOf (queued conn past) (queued conn (m ∷ past))
 queued_grows conn m past = grind (arith, nat_tests, prefix-flat_map, prefix-map, queued_entries_grow)

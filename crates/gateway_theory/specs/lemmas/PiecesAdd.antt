@@ -1,6 +1,6 @@
 -- What bytes of a stream add, and at most one request of them.
 use Rattle.std.specs.Prelude.{◌≡◌, ◌+◌, ◌≤◌, ◌∷◌, ◌++◌, ◌==◌, ◌&&◌, if◌then◌else◌}
-use Rattle.gateway_theory.specs.lemmas.Names.{ℕ, Bool, true, false, List, [], length, Option, None, Some, Ok, Err, refl, sym, ap, ◌∙◌, subst, arith, append_assoc, map, nat_tests, MatchResult, option_to_list, take, IfOk, MatchBool, eq-eqb, append-nil, Done, HasRead, HasReadTo, Partial, ReaderValue, Reading, Stopped, Waiting, is_over, HttpRequest, Closed, Open, RefusedBy, Requests, StreamEnd, PlanRecord, Gains, listens, stream, History, after_event, JobValue, Break, Coming, Comes, Occurrence, Piece, calls_in, RequestLaws, StepFault, arriving, entered, is_shut_value, now_of, stepped, went, ConnectionValue, is_open_value, GatewayValue, conn_of, connection, HeldConnection, connection_of, Adds, CoreValue, FedUpTo, HasConns, is_heard, is_waiting, HasCome, core_of, stream_of, Holds, ReadsOn, TakesBytes, arriving_in, begun_by, broke, broken_held, coming_of, dropped, entered_held, hears, not_fed, read, read_held, stream_in, unread, IsServing, Feeds, Moves, absent, there, TakesOne}
+use Rattle.gateway_theory.specs.lemmas.Names.{ℕ, Bool, true, false, List, [], length, Option, None, Some, Ok, Err, refl, sym, ap, ◌∙◌, subst, arith, append_assoc, map, nat_tests, MatchResult, option_to_list, take, IfOk, MatchBool, eq-eqb, append-nil, Done, HasRead, HasReadTo, Partial, ReaderValue, Reading, Stopped, Waiting, is_over, HttpRequest, Closed, Open, RefusedBy, Requests, StreamEnd, PlanRecord, Gains, listens, stream, History, after_event, JobValue, Break, Coming, Comes, Occurrence, Piece, calls_in, RequestLaws, StepFault, arriving, entered, is_shut_value, now_of, stepped, went, ConnectionValue, is_open_value, GatewayValue, conn_of, connection, HeldConnection, connection_of, Adds, CoreValue, FedUpTo, HasConns, is_heard, is_waiting, HasCome, core_of, stream_of, Holds, ReadsOn, TakesBytes, arriving_in, begun_by, broke, broken_held, coming_of, dropped, entered_held, hears, not_fed, read, read_held, stream_in, unread, IsServing, Feeds, Moves, absent, there, TakesOne, and_parts}
 use Rattle.std.proofs.Common.{Result}
 use Rattle.gateway_theory.specs.lemmas.ServedPieces.{midway, no_refusal, text_on, read_requests, Reads, ReadsTo, breaking, came_adds, not_fed_adds, over_reads, quiet_adds, read_adds, read_if, read_to, no_bytes, nothing_gained}
 use Rattle.gateway_theory.specs.lemmas.ServedLemmas.{hung_still, open_still, is_listening, text_still, stays_itself, stream_stays}
@@ -11,7 +11,7 @@ use Rattle.gateway_theory.specs.lemmas.Broadcast.{all_broken}
 use Rattle.gateway_theory.specs.lemmas.Conns.{there_value}
 use Rattle.gateway_theory.specs.lemmas.Events.{piece_may, none_adds}
 use Rattle.gateway_theory.specs.lemmas.Moving.{fades_adds, same, Became, became_fades}
-use Rattle.gateway_theory.specs.lemmas.BroadcastAdds.{deaf_absent, heard_there, hears_both}
+use Rattle.gateway_theory.specs.lemmas.BroadcastAdds.{deaf_absent, heard_there}
 use Rattle.gateway_theory.specs.lemmas.HeldSteps.{given_then, hears_parts, one_if}
 use Rattle.gateway_theory.specs.lemmas.HeldValues.{broken_value, entered_value}
 use Rattle.gateway_theory.specs.lemmas.ServedJoins.{adds_joined, fed_more}
@@ -99,7 +99,7 @@ module _ (laws : RequestLaws) (number : ℕ) (bytes : List ℕ) (v w : GatewayVa
   reader_is = ap (λ o. (stream_of o).reader) k_is
 
   parts : (is_open_value v.opened number (connection number v) ≡ true) × (is_heard (connection number v) (stream_of (conn_of number v)) ≡ true)
-  parts = hears_both _ _ (heard_there number v k s k_is ∙ on)
+  parts = and_parts _ _ (heard_there number v k s k_is ∙ on)
 
   goes_on : (connection number v).broken ≡ false
   goes_on = ap (λ (x : ConnectionValue). x.broken) value_is ∙ (hears_parts k on).1
@@ -263,7 +263,7 @@ module _ (laws : RequestLaws) (number : ℕ) (bytes : List ℕ) (v w : GatewayVa
 
   module _ (k : HeldConnection) (k_is : conn_of number v ≡ Some k) (on : hears k ≡ true) where
     come : HasCome (connection number v) (stream_of (conn_of number v)).reader (stream h.opened number h.events)
-    come = let parts = hears_both _ _ (heard_there number v k s k_is ∙ on) in (c.each number).has_come parts.0 parts.1
+    come = let parts = and_parts _ _ (heard_there number v k s k_is ∙ on) in (c.each number).has_come parts.0 parts.1
 
     was_read : HasRead k.reader (stream h.opened number h.events) come.given
     was_read = subst (λ r. HasRead r (stream h.opened number h.events) come.given) (ap (λ o. (stream_of o).reader) k_is) come.reads

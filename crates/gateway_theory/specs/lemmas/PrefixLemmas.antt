@@ -1,10 +1,12 @@
--- What is queued for a connection that broke begins what were queued if none had broken.
+-- What is queued for a connection that broke begins what were queued if none had broken, and what was taken of it begins that.
 use Rattle.std.specs.Prelude.{◌≡◌, ◌∷◌, ◌++◌, ◌⊎◌, ◌==◌, ◌||◌, if◌then◌else◌}
-use Rattle.gateway_theory.specs.lemmas.Names.{ℕ, Bool, true, false, List, [], None, Some, refl, sym, ap, ◌∙◌, subst, ⊎_elim, inl, inr, arith, nat_tests, filter, not, cases_Bool, append-nil, filter-append, ReplyEntry, Occurrence, Opening, Comes, HangUp, Moment, Result, Drain, Closing, Break, JobValue, is_of, is_break, without_breaks, by_events, Placed, jobs, jobs_by, occurrences, CallId, ArrivedCall, Mark, Past, arrivals, breaks, call, call_id, coming_on, is_broken, is_shut, mark_of, marked, now, own_event, IsPrefixOf, queued_entries}
+use Rattle.gateway_theory.specs.lemmas.Names.{ℕ, Bool, true, false, List, [], None, Some, refl, sym, ap, ◌∙◌, subst, ⊎_elim, inl, inr, arith, nat_tests, filter, not, cases_Bool, append-nil, filter-append, ReplyEntry, Occurrence, Opening, Comes, HangUp, Moment, Result, Drain, Closing, Break, JobValue, is_of, is_break, without_breaks, by_events, Placed, jobs, jobs_by, occurrences, CallId, ArrivedCall, Mark, Past, arrivals, breaks, call, call_id, coming_on, is_broken, is_shut, mark_of, marked, now, own_event, IsPrefixOf, queued_entries, map, History, IsKnown, Shown, answer_of, queued}
 use Rattle.gateway_theory.specs.lemmas.Frame.{call_same}
 use Rattle.gateway_theory.specs.lemmas.ShutConns.{shut_jobs}
 use Rattle.gateway_theory.specs.lemmas.OwnLemmas.{none_if, own_alike, own_without, unbroken_queue, unbroken_started}
-use Rattle.gateway_theory.specs.lemmas.PastLemmas.{prefix-refl, prefix-trans, queued_entries_grow}
+use Rattle.gateway_theory.specs.lemmas.PastLemmas.{prefix-refl, prefix-trans, queued_entries_grow, prefix-flat_map, prefix-map}
+use Rattle.gateway_model.specs.declared.reply_bytes.ReplyBytes.{ReplyBytes}
+use Rattle.gateway_model.specs.Run.{bytes_of}
 
 -- ---- once it broke nothing more is queued
 
@@ -14,7 +16,7 @@ pub record Still (c : ℕ) (m : Mark) (past : Past) : Type 0 where
   pub no_event : (k : ℕ) → own_event (call_id c k) m past ≡ None
 
 pub still_queue : (c : ℕ) (m : Mark) (past : Past) → Still c m past → queued_entries c (m ∷ past) ≡ queued_entries c past
-still_queue c m past s = grind arith
+still_queue c m past s = search arith
 
 pub broken_shut : (c : ℕ) (past : Past) → is_broken c past ≡ true → is_shut c past ≡ true
 broken_shut c [] e = e
@@ -89,7 +91,7 @@ prefix_started c (o ∷ os) = by_past (is_broken c (marked os)) refl (prefix_sta
         before (started_without c o os))
 
     at_a_break : (x : Occurrence) → breaks c x ≡ true → filter (is_of c) (jobs_by x (mark_of (marked os) x) (marked os)) ≡ []
-    at_a_break x h1 = grind (arith, nat_tests)
+    at_a_break x is = grind (arith, nat_tests)
 
     by_now : (b : Bool) → breaks c o ≡ b → is_broken c (marked os) ≡ false → IsPrefixOf (filter (is_of c) (jobs (marked os))) (filter (is_of c) (jobs (marked (without_breaks os))))
         → IsPrefixOf (filter (is_of c) (jobs (marked (o ∷ os)))) (filter (is_of c) (jobs (marked (without_breaks (o ∷ os)))))
@@ -115,13 +117,13 @@ call_within id a [] e = e
 call_within id a (o ∷ os) e = by_past (is_broken id.conn (marked os)) refl (call_within id a os)
   where
     stays : (b : Bool) → call id (marked (without_breaks os)) ≡ Some a → call id (marked (if not b then o ∷ without_breaks os else without_breaks os)) ≡ Some a
-    stays b h1 = grind (arith, nat_tests)
+    stays b is = grind (arith, nat_tests)
 
     still : Still id.conn (mark_of (marked os) o) (marked os) → call id (marked os) ≡ Some a
     still s = sym (call_same id (mark_of (marked os) o) (marked os) (none_if (arrivals id.conn (marked os) == id.request) (coming_on id.conn o (is_broken id.conn (marked os))) s.none_comes)) ∙ e
 
     broke_now : (x : Occurrence) → breaks id.conn x ≡ true → Still id.conn (mark_of (marked os) x) (marked os)
-    broke_now x h1 = grind (arith, nat_tests)
+    broke_now x is = grind (arith, nat_tests)
 
     whole : is_broken id.conn (marked (o ∷ os)) ≡ false → call id (marked (without_breaks (o ∷ os))) ≡ Some a
     whole off = (own_alike id.conn (without_breaks (o ∷ os))).call_is id.request
@@ -129,10 +131,10 @@ call_within id a (o ∷ os) e = by_past (is_broken id.conn (marked os)) refl (ca
 
     by_now : (b : Bool) → breaks id.conn o ≡ b → is_broken id.conn (marked os) ≡ false → (call id (marked os) ≡ Some a → call id (marked (without_breaks os)) ≡ Some a)
         → call id (marked (without_breaks (o ∷ os))) ≡ Some a
-    by_now b h1 h2 h3 = grind (arith, nat_tests, stays, still, broke_now, whole)
+    by_now b is also each = grind (arith, nat_tests, stays, still, broke_now, whole)
 
     by_past : (b : Bool) → is_broken id.conn (marked os) ≡ b → (call id (marked os) ≡ Some a → call id (marked (without_breaks os)) ≡ Some a) → call id (marked (without_breaks (o ∷ os))) ≡ Some a
-    by_past b h1 h2 = search (arith, nat_tests, stays, still, after_break, by_now)
+    by_past b is each = search (arith, nat_tests, stays, still, after_break, by_now)
 
 -- ---- a connection that is shut by the events alone
 
@@ -142,3 +144,13 @@ is_shut_in c os = is_shut c (marked os)
 pub without_shut : (c : ℕ) (os : List Occurrence) → is_shut_in c (without_breaks os) ≡ true → is_shut_in c os ≡ true
 without_shut c [] e = e
 without_shut c (o ∷ os) e = grind (arith, without_shut c os)
+
+module _ (s : Shown) (history : History) (os : List Occurrence) (known : IsKnown s history os) (c : ℕ) (there : s.is_open c ≡ true) where
+  pub taken_begin : IsPrefixOf (history.taken c) (queued_entries c (marked os))
+  taken_begin = subst (λ us. IsPrefixOf (history.taken c) (queued_entries c (marked us))) (sym (events_occur known.lived) ∙ known.same)
+      (prefix-trans (history.taken c) (queued_entries c (marked (occurrences known.lived))) (queued_entries c (marked (without_breaks (occurrences known.lived))))
+      (s.untaken c, sym (known.queue_is c there)) (prefix_queue c (occurrences known.lived)))
+
+  pub bytes_begin : IsPrefixOf (bytes_of (history.taken c)) (queued c (marked os))
+  bytes_begin = prefix-flat_map (λ (reply : ReplyBytes). reply.bytes) (map answer_of (history.taken c)) (map answer_of (queued_entries c (marked os)))
+      (prefix-map answer_of (history.taken c) (queued_entries c (marked os)) taken_begin)

@@ -5,13 +5,12 @@ use Rattle.std.proofs.Common.{append-nil}
 use Rattle.gateway_model.specs.declared.call_event.CallEvent.TheVariants.{Answer as Answered, HungUp, Drained}
 use Rattle.gateway_model.specs.Record.{answers_among, is_out_after, may_come, may_follow, ends_at_start, is_lawful, is_ending, is_decided}
 use Rattle.gateway_theory.specs.lemmas.LimitLemmas.{out_started, same_call, started_grows, unanswered, unanswered_next}
-use Rattle.gateway_theory.specs.lemmas.PastLemmas.{call_stays}
+use Rattle.gateway_theory.specs.lemmas.PastLemmas.{call_stays, Unborn, unborn}
 use Rattle.gateway_theory.specs.lemmas.Deadlines.{deadlines_same, expires, reached_out}
 use Rattle.gateway_theory.specs.lemmas.Frame.{Past_it, call_same, started_same}
-use Rattle.gateway_theory.specs.lemmas.MachineLemmas.{no_entering}
+use Rattle.gateway_theory.specs.lemmas.GoingOn.{no_entering}
 use Rattle.gateway_theory.specs.lemmas.StepLemmas.{deadlines_now, entering_at, started_live}
 use Rattle.gateway_theory.specs.lemmas.StandsLemmas.{last_is}
-use Rattle.gateway_theory.specs.lemmas.Unborn.{Unborn, unborn}
 use Rattle.gateway_theory.specs.lemmas.Cases.{and_false, or_true}
 
 -- ---- lists of events
@@ -80,7 +79,7 @@ no_answer_more k (x ∷ es) e h n =
     none_or (answer_of_branch k (es ++ e ∷ [])) (answer_in k x) (no_answer_more k es e parts.0 n) parts.1
   where
     none_parts : (x y : Option (List ℕ)) → is_none (option_or x y) ≡ true → (is_none x ≡ true) × (is_none y ≡ true)
-    none_parts x y h2 = grind (arith, nat_tests)
+    none_parts x y is = grind (arith, nat_tests)
 
 other_answer : (k i : ℕ) (body : List ℕ) → (i ≡ k → ⊥) → is_none (answer_in k (Answered i body)) ≡ true
 other_answer k i body ne = rw (ne_eqb i k ne) refl
@@ -119,10 +118,6 @@ record Undecided (id : CallId) (a : ArrivedCall) (m : Mark) (past : Past) : Type
 own_is : (id : CallId) (a : ArrivedCall) (m : Mark) (past : Past) → Undecided id a m past → own_event id m past ≡ event_by id a m.what m.counted past
 own_is id a m past h = rw (h.unshut, h.call_is) refl
 
-events_then : (id : CallId) (a : ArrivedCall) (m : Mark) (past : Past) (e : CallEvent) → Undecided id a m past → own_event id m past ≡ Some e
-    → own_events id (m ∷ past) ≡ own_events id past ++ e ∷ []
-events_then id a m past e h own = rw (h.undecided, own) refl
-
 events_same : (id : CallId) (a : ArrivedCall) (m : Mark) (past : Past) → Undecided id a m past → own_event id m past ≡ None → own_events id (m ∷ past) ≡ own_events id past
 events_same id a m past h own = rw (h.undecided, own) (append-nil (own_events id past))
 
@@ -147,14 +142,14 @@ goes_quiet id a m past h own none = grind (arith, nat_tests, events_same, le-ltb
 goes_ends : (id : CallId) (a : ArrivedCall) (m : Mark) (past : Past) (e : CallEvent) → Undecided id a m past → own_event id m past ≡ Some e
     → decides (answers id past) (length a.plan.branches) e ≡ true → may_come (blank a (record_deadlines id (m ∷ past))) (own_events id past) e ≡ true
     → is_ending (answers_among (own_events id past ++ e ∷ [])) (length a.plan.branches) e ≡ true → Lawful id a (m ∷ past)
-goes_ends id a m past e h own dec come ends = search (arith, nat_tests, events_then, decided_then, follow_more, last_is)
+goes_ends id a m past e h own dec come ends = search (arith, nat_tests, decided_then, follow_more, last_is)
 
 -- an answer that leaves others open
 none_decides_answered : (id : CallId) (a : ArrivedCall) (past : Past) (o : Occurrence) (i : ℕ) (body : List ℕ) → Undecided id a (mark_of past o) past
     → own_event id (mark_of past o) past ≡ Some (Answered i body) → is_out id i past ≡ true → (counts o past && is_answer_to id o) ≡ true
     → ((k : ℕ) → is_result_of id k o ≡ (i == k))
     → decides (answers id past) (length a.plan.branches) (Answered i body) ≡ false → Lawful id a (mark_of past o ∷ past)
-none_decides_answered id a past o i body h own out_i one of_it dec = search (arith, nat_tests, events_then, decided_then, out_started, follow_more, out_of_record, on_more, among_more, le-ltb, ltb-false, started_grows, no_answer_more, other_answer, and_parts, eq-eqb)
+none_decides_answered id a past o i body h own out_i one of_it dec = search (arith, nat_tests, decided_then, out_started, follow_more, out_of_record, on_more, among_more, le-ltb, ltb-false, started_grows, no_answer_more, other_answer, and_parts, eq-eqb)
 
 -- ---- each occurrence
 
@@ -163,7 +158,7 @@ resulted : (id of : CallId) (a : ArrivedCall) (i : ℕ) (outcome : Outcome) (pas
 resulted id of a i outcome past h = by_count (counts (Result of i outcome) past && is_call of id) outcome refl h
   where
     no_answer : (o : Outcome) (counted : Bool) → (counted && is_call of id) ≡ false → (counted && is_answer_to id (Result of i o)) ≡ false
-    no_answer o counted h2 = grind (arith, nat_tests)
+    no_answer o counted is = grind (arith, nat_tests)
 
     by_count : (b : Bool) (o : Outcome) → (counts (Result of i o) past && is_call of id) ≡ b → Undecided id a (mark_of past (Result of i o)) past
         → Lawful id a (mark_of past (Result of i o) ∷ past)
@@ -246,9 +241,6 @@ opened_on id a (Break c) past h = goes_quiet id a (mark_of past (Break c)) past 
 
 -- ---- a call that arrives
 
-asked_start : (id : CallId) (m : Mark) (past : Past) (a : ArrivedCall) → asked_now id m past ≡ Some a → a.start ≡ now past
-asked_start id m past a e = grind arith
-
 pub record Arriving (id : CallId) (a : ArrivedCall) (os : List Occurrence) (m : Mark) : Type 0 where
   pub nothing : Unborn id (marked os)
   pub asked : asked_now id m (marked os) ≡ Some a
@@ -258,7 +250,7 @@ arrives_closed id a os m h shut = grind arith
 
 arrives_open : (id : CallId) (a : ArrivedCall) (os : List Occurrence) (o : Occurrence) → Arriving id a os (mark_of (marked os) o) → is_shut id.conn (marked os) ≡ false
     → answers id (mark_of (marked os) o ∷ marked os) ≡ 0 → Lawful id a (mark_of (marked os) o ∷ marked os)
-arrives_open id a os o h unshut none = search (arith, nat_tests, or_true, asked_start)
+arrives_open id a os o h unshut none = search (arith, nat_tests, or_true)
 
 -- ---- every list of what occurs
 
@@ -294,7 +286,7 @@ lawful_next id os o a before call_is = by_call (call id (marked os)) refl
         })
 
     shut_before : (b : ArrivedCall) → b ≡ a → call id past ≡ Some b → decided id past ≡ None → is_shut id.conn past ≡ true → Lawful id a (m ∷ past)
-    shut_before b h1 h2 h3 h4 = grind (arith, nat_tests)
+    shut_before b is also last fact = grind (arith, nat_tests)
 
     called_before : (b : ArrivedCall) → call id past ≡ Some b → b ≡ a → Lawful id a (m ∷ past)
     called_before b b_is same = by_each (decided id past) (is_shut id.conn past) refl refl

@@ -52,10 +52,6 @@ gains_parts laws plans s t given whole e f more t_is h g =
 
 -- ---- which event stands at a place
 
-abbrev rest_of : Before → Before
-rest_of [] = []
-rest_of (e ∷ es) = es
-
 pub last_event : (e : Event) (es later : Before) (event : Event) (before : Before) → e ∷ es ≡ later ++ event ∷ before → length before ≡ length es → (event ≡ e) × (before ≡ es)
 last_event e es [] event before is place = (cc, cc)
 last_event e es (x ∷ later) event before is place = grind (arith, nat_tests, length-append)
@@ -63,7 +59,7 @@ last_event e es (x ∷ later) event before is place = grind (arith, nat_tests, l
 -- the breaks among the newest, by what may break at their place
 so_broke : (P : ℕ → List Occurrence → Type 0) (opened : List ℕ) (es : Before) (m : ℕ) → ((c : ℕ) (us : List Occurrence) → CanBreakAt c m opened es (marked us) → P c us)
     → (o : Occurrence) (us : List Occurrence) → MayOccur opened es m o (marked us) → BreakSo P o us
-so_broke P opened es m h4 o us h7 = grind (arith, nat_tests)
+so_broke P opened es m each o us fact = grind (arith, nat_tests)
 
 pub breaks_back : (P : ℕ → List Occurrence → Type 0) (opened : List ℕ) (es : Before) (m : ℕ) → ((c : ℕ) (us : List Occurrence) → CanBreakAt c m opened es (marked us) → P c us)
     → (newer : List Occurrence) (lived : List Placed) → BreakAsTheyMay opened es (at_place m newer ++ lived) → AreBreaks P newer (occurrences lived)
@@ -89,7 +85,7 @@ module _ (n : ℕ) (p q : List ℕ) (history : History) where
   MayNow = MayBreak history.opened (Piece n (p ++ q)) history.events
 
   pub by_second : (c : ℕ) (us : List Occurrence) → CanBreakAt c (length (Piece n p ∷ history.events)) history.opened (Piece n q ∷ Piece n p ∷ history.events) (marked us) → MayNow c us
-  by_second c us b = grind (arith, nat_tests, last_event, listens_piece)
+  by_second c us b = search (arith, last_event)
 
   pub by_first : (c : ℕ) (us : List Occurrence) → CanBreakAt c (length history.events) history.opened (Piece n q ∷ Piece n p ∷ history.events) (marked us) → MayNow c us
   by_first c us b = by_later b.later b.events_are
@@ -97,7 +93,7 @@ module _ (n : ℕ) (p q : List ℕ) (history : History) where
       by_later : (later : Before) → Piece n q ∷ Piece n p ∷ history.events ≡ later ++ b.event ∷ b.before → MayNow c us
       by_later [] is = absurd (let size : length (Piece n q ∷ Piece n p ∷ history.events) ≡ length (b.event ∷ b.before) = ap (λ (xs : Before). length xs) is in
           let place = b.place_is in omega (arith, size, place))
-      by_later (x ∷ later) is = grind (arith, nat_tests, last_event, rest_of)
+      by_later (x ∷ later) is = search (arith, last_event)
 
 -- what the one brings is what the two bring
 module _ (laws : RequestLaws) (n : ℕ) (p q : List ℕ) (plans : List PlanRecord) (history : History)
@@ -160,7 +156,7 @@ module _ (laws : RequestLaws) (n : ℕ) (p q : List ℕ) (u v w : CoreValue) (h 
   few_joined : (c : HasConns u h.opened h.events) (lived : List Placed) (l : Lives u h lived) (os : List Occurrence) (at : OccursAt u.plans h.opened (Piece n (p ++ q)) h.events os)
       → w.begun ≤ calls_arrived ((newer_joined c lived l os at).newer ++ occurrences lived)
   unfolding newer_joined
-  few_joined c lived l os at = search (arith, nat_tests, parts, occurrences_at, append_assoc)
+  few_joined c lived l os at = grind (arith, occurrences_at, append_assoc)
 
   pub adds_joined : Adds h.opened (Piece n (p ++ q)) h u w
   adds_joined = adds_counted h.opened (Piece n (p ++ q)) h u w (second.plans_are ∙ first.plans_are) (λ c. conns_joined c (second.conns (first.conns c)))

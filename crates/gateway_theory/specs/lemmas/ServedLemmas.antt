@@ -1,7 +1,8 @@
 -- What an event leaves alone of the connections and their streams.
 use Rattle.std.specs.Prelude.{◌≡◌, ◌∷◌, if◌then◌else◌, ◌&&◌, ◌||◌, ◌==◌}
-use Rattle.gateway_theory.specs.lemmas.Names.{ℕ, Bool, true, false, List, [], refl, sym, ap, ◌∙◌, arith, suc, length, Option, subst, nat_tests, not, nat_lt, ltb-false, eqb-true, Before, connections, hung_up, is_closing_of, is_hang_up_of, is_open, listens, piece_of, stream, Event, ReplyEntry, Occurrence, filled, next, Now, went, ConnectionValue, is_open_value, HasStreams, StreamStands, StreamValue, is_heard}
+use Rattle.gateway_theory.specs.lemmas.Names.{ℕ, Bool, true, false, List, [], refl, sym, ap, ◌∙◌, arith, subst, nat_tests, not, nat_lt, ltb-false, eqb-true, Before, connections, hung_up, is_closing_of, is_hang_up_of, is_open, listens, piece_of, stream, Event, Occurrence, next, Now, went, ConnectionValue, is_open_value, HasStreams, StreamStands, StreamValue, is_heard}
 use Rattle.std.proofs.Common.{append-nil}
+use Rattle.gateway_theory.specs.lemmas.ConnectionSteps.{filled_size}
 use Rattle.gateway_theory.specs.lemmas.Cases.{and_true, and_false, or_false, or_true}
 use Rattle.gateway_theory.specs.lemmas.CutLemmas.{open_known}
 use Rattle.gateway_model.specs.declared.event.Event.TheVariants.{Closing, HangUp}
@@ -33,7 +34,7 @@ pub record IsPlain (opened : List ℕ) (e : Event) (es : Before) : Type 0 where
 -- ---- connections whose pieces are taken
 
 pub going_parts : (a b : Bool) → (not a && not b) ≡ true → (a ≡ false) × (b ≡ false)
-going_parts a b h2 = grind (arith, nat_tests)
+going_parts a b is = grind (arith, nat_tests)
 
 -- no request came more, and it is as closed as it was; it may have broken
 pub record Stays (v w : ConnectionValue) : Type 0 where
@@ -47,15 +48,11 @@ stays_itself v = record { closed_is = refl; broken_was = λ e. e; next_is = refl
 pub stays_then : (u v w : ConnectionValue) → Stays u v → Stays v w → Stays u w
 stays_then u v w g h = record { closed_is = h.closed_is ∙ g.closed_is; broken_was = λ e. g.broken_was (h.broken_was e); next_is = h.next_is ∙ g.next_is }
 
-as_many : (reply : ℕ → Option ReplyEntry) (k : ℕ) (slots : List (Option ReplyEntry)) → length (filled reply k slots) ≡ length slots
-as_many reply k [] = refl
-as_many reply k (s ∷ slots) = ap suc (as_many reply (suc k) slots)
-
 whole_before : (closes_now breaks_now broken : Bool) → closes_now ≡ false → (not closes_now && (breaks_now || broken)) ≡ false → broken ≡ false
-whole_before closes_now breaks_now broken h3 h4 = grind (arith, nat_tests)
+whole_before closes_now breaks_now broken is also = grind (arith, nat_tests)
 
 open_part : (a b : Bool) → (a && not b) ≡ true → b ≡ false
-open_part a b h2 = grind (arith, nat_tests)
+open_part a b is = grind (arith, nat_tests)
 
 -- one that is open is not closed
 pub unclosed : (count c : ℕ) (v : ConnectionValue) → is_open_value count c v ≡ true → v.closed ≡ false
@@ -63,7 +60,7 @@ unclosed count c v there = open_part (nat_lt c count) v.closed there
 
 -- a step at which nothing comes, and which does not close it
 pub went_stays : (n : Now) (o : Occurrence) (v : ConnectionValue) → closes v.number o ≡ false → Stays v (went n o v)
-went_stays n o v still = grind (arith, nat_tests, whole_before, as_many)
+went_stays n o v still = grind (arith, nat_tests, whole_before, filled_size)
 
 -- events by which a connection is open and hung up, and its text, as by those before
 module _ (opened later : List ℕ) (es fs : Before) (count total c : ℕ) (v w : ConnectionValue) (s : StreamValue) (g : Stays v w) (h : StreamStands opened es count c v s)

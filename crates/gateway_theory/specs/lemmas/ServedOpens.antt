@@ -4,7 +4,7 @@ use Rattle.gateway_theory.specs.lemmas.Names.{ℕ, suc, Bool, true, false, List,
 use Rattle.std.proofs.Common.{append-nil}
 use Rattle.gateway_model.specs.declared.event.Event.TheVariants.{Opening}
 use Rattle.gateway_theory.specs.lemmas.LimitLemmas.{out_started, unbegun}
-use Rattle.gateway_theory.specs.lemmas.Unborn.{unborn}
+use Rattle.gateway_theory.specs.lemmas.PastLemmas.{unborn}
 use Rattle.gateway_theory.specs.lemmas.Cases.{or_false, and_true, or_true}
 use Rattle.gateway_theory.specs.lemmas.CutLemmas.{at_same, connections_grow, listens_same, open_known, same_before, IsSame}
 use Rattle.gateway_theory.specs.lemmas.Adding.{MayBreak, Newer, breaks_later, one_newer, StandsNow, adds_by, none_more}
@@ -37,7 +37,7 @@ none_out id i past le = grind (arith, nat_tests, out_started, unbegun, unborn)
 
 -- where nothing has come on it
 cannot_break : (c : ℕ) (opened : List ℕ) (e : Event) (es : Before) (past : Past) → connections opened es ≤ c → arrivals c past ≡ 0 → can_break c opened e es past ≡ false
-cannot_break c opened e es past h5 h6 = grind (arith, nat_tests, unopened_shut, eqb-true, none_out)
+cannot_break c opened e es past le is = grind (arith, nat_tests, unopened_shut, eqb-true, none_out)
 
 -- fewer had come before
 none_before : (c : ℕ) (m : Mark) (past : Past) → arrivals c (m ∷ past) ≡ 0 → arrivals c past ≡ 0
@@ -57,10 +57,10 @@ never_broke opened c es ((place, o) ∷ lived) le none (here, may) =
     before = none_before c (mark_of (marked (occurrences lived)) o) (marked (occurrences lived)) none
 
     by_break : (d : ℕ) → CanBreakAt d place opened es (marked (occurrences lived)) → (b : Bool) → (d == c) ≡ b → (d == c) ≡ false
-    by_break d h1 b h3 = grind (arith, nat_tests, known_less, connections_grow, eqb-true, cannot_break, before)
+    by_break d fact b is = grind (arith, nat_tests, known_less, connections_grow, eqb-true, cannot_break, before)
 
     by_each : (x : Occurrence) → MayOccur opened es place x (marked (occurrences lived)) → breaks c x ≡ false
-    by_each x h1 = grind (arith, nat_tests, by_break)
+    by_each x fact = grind (arith, nat_tests, by_break)
 
 -- ---- one more opening succeeds
 
@@ -85,12 +85,12 @@ occurs_before plans opened shifted n (e ∷ es) past le h (before, o, (os, at, i
 
 -- the openings without the last, which are those with it up to there
 pub shrunk : (opened : List ℕ) (n : ℕ) → ((place : ℕ) → succeeds opened place ≡ true → place < n) → IsShifted n (opened ++ n ∷ []) opened
-shrunk opened n below = grind (arith, nat_tests, grown, not_yet, succeeds_more, ne_eqb)
+shrunk opened n below = grind (arith, grown, succeeds_more, ne_eqb)
 
 -- an event can break the same connections, where the same ones listen before it
 break_same : (c : ℕ) (opened later : List ℕ) (e : Event) (before : Before) (p : Past) → ((n : ℕ) → listens later n before ≡ listens opened n before)
     → can_break c opened e before p ≡ true → can_break c later e before p ≡ true
-break_same c opened later e before p h6 h7 = grind (arith, nat_tests)
+break_same c opened later e before p each is = grind (arith, nat_tests)
 
 -- what connections could break before can do so with one opening more
 pub can_more : (opened : List ℕ) (es : Before) → ((place : ℕ) → succeeds opened place ≡ true → place < length es) → (c place : ℕ) (p : Past)
@@ -107,7 +107,7 @@ can_more opened es below c place p b = record {
 }
   where
     shorter : (later : Before) (x : Event) (before : Before) → es ≡ later ++ x ∷ before → length before ≤ length es
-    shorter later x before h3 = grind (arith, nat_tests, length-append)
+    shorter later x before is = grind (arith, nat_tests, length-append)
 
 -- ---- the openings that succeeded, and this one
 
@@ -128,7 +128,7 @@ module _ (opened : List ℕ) (es : Before) (below : (place : ℕ) → succeeds o
   total = ap (λ b. if b then suc (connections more es) else connections more es) succeeded ∙ (let e = was in omega (arith, e))
 
   places : (place : ℕ) (b : Bool) → succeeds opened place ≡ b → succeeds more place ≡ true → place < length (events.Opening ∷ es)
-  places place b h2 h3 = grind (arith, nat_tests, succeeds_more, eqb-true)
+  places place b is also = grind (arith, nat_tests, succeeds_more, eqb-true)
 
   count_other : (c : ℕ) → (count == c) ≡ false → nat_lt c (count + 1) ≡ nat_lt c count
   count_other c other = grind arith

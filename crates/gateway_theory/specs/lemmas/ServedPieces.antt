@@ -1,6 +1,6 @@
 -- What a piece of a connection's stream adds.
 use Rattle.std.specs.Prelude.{◌≡◌, ◌+◌, ◌<◌, ◌≤◌, ◌∷◌, ◌++◌, ◌⊎◌, ◌||◌, ◌==◌, if◌then◌else◌, ◌&&◌}
-use Rattle.gateway_theory.specs.lemmas.Names.{ℕ, suc, Bool, true, false, List, [], length, refl, sym, ap, ◌∙◌, arith, inr, subst, map, append_assoc, nat_tests, MatchBool, nat_lt, reverse, not, eq-eqb, eqb-true, ne_eqb, length-append, append_cancel_left, reverse-append, append-nil, Done, HasRead, HasReadTo, Partial, ReaderValue, Reading, Stopped, Waiting, is_over, after_request, HttpRequest, closes, is_v10, most_requests, Closed, RefusedBy, Requests, StreamEnd, refusals, is_waiting, Adds, CoreValue, HasCome, HasConns, HasStreams, StreamStands, StreamValue, is_heard, refusal_gained, Gains, piece_of, requests_gained, Before, listens, stream, hung_up, PlanRecord, Piece, Coming, Comes, Occurrence, RequestLaws, without_breaks, ReplyEntry, History, JobValue, occurrences, calls_arrived, calls_in, AllStand, Now, all_after, all_started, arriving, breaks_of, entered, next, now_after, now_of, stepped, ConnectionValue, is_open_value}
+use Rattle.gateway_theory.specs.lemmas.Names.{ℕ, suc, Bool, true, false, List, [], length, refl, sym, ap, ◌∙◌, arith, inr, subst, map, append_assoc, nat_tests, MatchBool, nat_lt, reverse, not, eq-eqb, eqb-true, ne_eqb, length-append, append_cancel_left, reverse-append, append-nil, Done, HasRead, HasReadTo, Partial, ReaderValue, Reading, Stopped, Waiting, is_over, HttpRequest, closes, is_v10, most_requests, Closed, RefusedBy, Requests, StreamEnd, refusals, is_waiting, Adds, CoreValue, HasCome, HasConns, HasStreams, StreamStands, StreamValue, is_heard, refusal_gained, Gains, piece_of, requests_gained, Before, listens, stream, hung_up, PlanRecord, Piece, Coming, Comes, Occurrence, RequestLaws, without_breaks, ReplyEntry, History, JobValue, occurrences, calls_arrived, calls_in, AllStand, Now, all_after, all_started, arriving, breaks_of, entered, next, now_after, now_of, stepped, ConnectionValue, is_open_value}
 use Rattle.std.proofs.Common.{append-nil}
 use Rattle.http_pieces.specs.declared.refusal.Refusal.{Refusal}
 use Rattle.http_pieces.specs.Cut.{Complete, Cut, IsCutText}
@@ -19,10 +19,10 @@ use Rattle.gateway_theory.specs.lemmas.Events.{MayAll, broken_stays, came, none_
 
 -- request k of a text has that number
 numbered : (k : ℕ) (text : List ℕ) (whole : Cut Refusal HttpRequest) (q : HttpRequest) (rest : List ℕ) → whole ≡ Complete q rest → IsCutText (request_kind k) text whole → q.number ≡ k
-numbered k text whole q rest h5 h6 = grind (arith, nat_tests)
+numbered k text whole q rest is fact = search arith
 
 third_off : (a b c : Bool) → (a || b || c) ≡ false → c ≡ false
-third_off a b c h3 = grind (arith, nat_tests)
+third_off a b c is = grind (arith, nat_tests)
 
 -- a text whose first request is number k has so many, and fewer where they do not end by the last
 few_requests : (k : ℕ) (text : List ℕ) (given : List HttpRequest) (ending : StreamEnd) → k < most_requests → Requests k text given ending
@@ -33,23 +33,20 @@ few_requests k text (q ∷ given) ending room (rest, cut, by_close) = by_it (clo
     by_it : (b : Bool) → closes q ≡ b → (closes q ≡ false → (q.number + 1 == most_requests) ≡ false) → (suc k < most_requests → Requests (suc k) rest given ending → (length given + suc k ≤ most_requests) × ((ending ≡ Closed) ⊎ (length given + suc k < most_requests)))
         → MatchBool b ((given ≡ []) × (ending ≡ Closed)) (Requests (suc k) rest given ending)
         → (suc (length given) + k ≤ most_requests) × ((ending ≡ Closed) ⊎ (suc (length given) + k < most_requests))
-    by_it b h1 h2 h3 h4 = search (arith, nat_tests, eq-eqb, numbered)
+    by_it b is each every fact = search (arith, nat_tests, eq-eqb, numbered)
 
 -- so many were given, and a refusal counts
 pub few_given : (reader : ReaderValue) (text : List ℕ) (given : List HttpRequest) → HasRead reader text given → length given + refusals reader.reading ≤ most_requests
 few_given reader text given h = grind (arith, nat_tests, few_requests, length-append)
 
 pub no_refusal : (r : Reading) → is_over r ≡ false → refusals r ≡ 0
-no_refusal r h1 = grind (arith, nat_tests)
+no_refusal r is = grind (arith, nat_tests)
 
 -- ---- what a piece brings
 
 -- the reader is in the middle of a request
 pub midway : (r : Reading) → is_over r ≡ false → is_waiting r ≡ false → (left : List ℕ) × (r ≡ Partial left)
-midway r h1 h2 = grind (arith, nat_tests)
-
-pub after_settled : (q : HttpRequest) (r : Reading) → r ≡ after_request q → (is_waiting r ≡ false) × (refusals r ≡ 0)
-after_settled q r e = grind arith
+midway r is also = grind (arith, nat_tests)
 
 -- ---- no bytes
 
@@ -183,7 +180,7 @@ over_reads laws plans reader bytes over text given read = record {
 }
   where
     not_waiting : (r : Reading) → is_over r ≡ true → is_waiting r ≡ false
-    not_waiting r h1 = grind (arith, nat_tests)
+    not_waiting r is = grind (arith, nat_tests)
 
 abbrev pub read_if : Bool → ReaderValue → StreamValue → StreamValue
 read_if b new s = if b then record s { reader = new } else s
@@ -225,7 +222,7 @@ module _ (opened : List ℕ) (n : ℕ) (bytes : List ℕ) (es : Before) (count :
       (subst (λ m. ReadsTo plans (streams m).reader bytes new gained) at reads) (subst (λ m. Fed (length gained) (conns m) (later m)) at this) h is
 
   pub streams_fed : HasStreams opened es count conns streams → HasStreams opened (Piece n bytes ∷ es) count later (λ c. read_if (n == c) new (streams c))
-  streams_fed h = grind (arith, nat_tests, each_fed)
+  streams_fed h = grind (arith, each_fed)
 
 -- ---- nothing comes, or one request or refusal
 
@@ -278,7 +275,7 @@ module _ (laws : RequestLaws) (n : ℕ) (bytes : List ℕ) (h : History) (v : Co
       others c ne = subst (λ b. Stays (v.conns c) (if b then (step v.now (Comes n x) (all_broken v.now cs v.conns c)).conn else all_broken v.now cs v.conns c)) (sym ne) (broken_stays v.now v.conns cs c)
 
       not_closed : (a b : Bool) → (a && not b) ≡ true → b ≡ false
-      not_closed a b h2 = grind (arith, nat_tests)
+      not_closed a b is = grind (arith, nat_tests)
 
       open_still_then : (d : ℕ) → n ≡ d → (all_broken v.now cs v.conns d).closed ≡ false
       open_still_then d at = (broken_stays v.now v.conns cs d).closed_is ∙ ap (λ m. (v.conns m).closed) (sym at) ∙ not_closed (nat_lt n v.opened) (v.conns n).closed there
@@ -297,7 +294,7 @@ module _ (n : Now) (conns : ℕ → ConnectionValue) (taken : ℕ → List Reply
       none = ap (λ b. (if b then stepped (conns c) [] else stepped (entered (arriving n x (conns c)) (conns c)) (arriving n x (conns c)).jobs).jobs) broke
 
       same : (d : ℕ) (b : Bool) → (c == d) ≡ b → (if b then (step n (Comes c x) (conns d)).conn else conns d) ≡ conns d
-      same d b h2 = grind (arith, nat_tests)
+      same d b is = grind (arith, nat_tests)
 
   all_quiet : (xs : List Coming) (os : List Occurrence) → AllStand n conns taken handed waiting os → AllStand n conns taken handed waiting (reverse (map (Comes c) xs) ++ os)
   all_quiet [] os h = h
@@ -354,10 +351,10 @@ module _ (n : ℕ) (bytes : List ℕ) (h : History) (v : CoreValue) where
   not_fed_adds deaf = by (listens h.opened n h.events) refl
     where
       both : (a b : Bool) → (a && not b) ≡ true → (a ≡ true) × (b ≡ false)
-      both a b h2 = grind (arith, nat_tests)
+      both a b is = grind (arith, nat_tests)
 
       broke : HasConns v h.opened h.events → listens h.opened n h.events ≡ true → (b : Bool) → (v.conns n).broken ≡ b → (v.conns n).broken ≡ true
-      broke h0 h1 b h3 = grind (arith, nat_tests)
+      broke fact is b also = grind (arith, nat_tests)
 
       by : (b : Bool) → listens h.opened n h.events ≡ b → Adds h.opened (Piece n bytes) h v v
       by false off = off_adds off

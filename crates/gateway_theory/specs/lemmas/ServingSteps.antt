@@ -1,6 +1,6 @@
 -- Each call of the gateway leaves what holds between two calls.
 use Rattle.std.specs.Prelude.{◌≡◌, ◌+◌, ◌<◌, ◌≤◌, if◌then◌else◌}
-use Rattle.gateway_theory.specs.lemmas.Names.{ℕ, Bool, true, false, List, [], length, Option, None, Some, refl, sym, ap, ◌∙◌, subst, arith, nat_tests, sum_by, ⊤, is_some, HasRead, PlanRecord, Outcome, JobValue, CallId, GatewayValue, conn_of, HeldConnection, ReplyValue, moment_after, kept_at, HandedJob, StepFault, Took, Trigger, Drained, HungUp, Reached, one_if_open, open_count, not_fed, dropped, unread, read, broke, unnoticed, hung, ended, unknown, settled, late, lost, CallsEnd, HangsUp, Holds, TakesBytes, TakesReply, TakesResult, TakesStarved, closed_held, hung_held, is_gone, left_of, lost_held, new_held, new_reader, read_held, IsHeld, IsServing, absent, there, shut, Broadcast, Closes, Drains, Feeds, HangsUpAt, MayEnd, Moves, Opens, Reaches, Results, Starves, TakesJob, TakesReplyAt, open_in}
+use Rattle.gateway_theory.specs.lemmas.Names.{ℕ, Bool, true, false, List, [], length, Option, None, Some, refl, sym, ap, ◌∙◌, subst, arith, nat_tests, sum_by, ⊤, is_some, HasRead, PlanRecord, Outcome, JobValue, CallId, GatewayValue, conn_of, HeldConnection, ReplyValue, moment_after, kept_at, HandedJob, StepFault, Took, Trigger, Drained, HungUp, Reached, one_if_open, open_count, not_fed, dropped, unread, read, broke, unnoticed, hung, ended, unknown, settled, late, lost, CallsEnd, HangsUp, Holds, TakesBytes, TakesReply, TakesResult, TakesStarved, closed_held, hung_held, is_gone, left_of, lost_held, new_held, new_reader, read_held, IsHeld, IsServing, absent, there, shut, Broadcast, Closes, Drains, Feeds, HangsUpAt, MayEnd, Moves, Opens, Reaches, Results, Starves, TakesJob, TakesReplyAt, open_in, append-nil, Answer, is_none, Live, Forgets, Step}
 use Rattle.std.proofs.Common.{Result}
 use Rattle.std.specs.List.Sorted.{IsStrictlySortedBy}
 use Rattle.std.specs.Map.{keys_of, values_of}
@@ -9,7 +9,8 @@ use Rattle.gateway_theory.specs.lemmas.StoreLemmas.{some_same}
 use Rattle.gateway_theory.specs.Held.{came}
 use Rattle.gateway_theory.specs.Steps.{closes}
 use Rattle.gateway_theory.specs.lemmas.Conns.{moves_kept, moves_serving, look, sum_alike, sum_values}
-use Rattle.gateway_theory.specs.lemmas.HeldSteps.{Like, held_broken, held_closed, held_ended, held_entered, held_hung, held_like, held_new, held_read, hears_parts, like_back, like_forgotten, like_itself, like_lost, like_settled, like_then, holds_back, holds_forgotten, holds_lost, holds_settled}
+use Rattle.gateway_theory.specs.lemmas.HeldValues.{late_settles, late_step}
+use Rattle.gateway_theory.specs.lemmas.HeldSteps.{Like, held_broken, held_closed, held_ended, held_entered, held_hung, held_like, held_new, held_read, hears_parts, like_forgotten, like_itself, like_lost, like_settled, like_then, holds_forgotten, holds_lost, holds_settled}
 
 -- ---- at first, and where nothing of the connections changes
 
@@ -52,7 +53,7 @@ closes_serving number v w result (closes k k_is still r m w_is) s =
 
 pub fed_closed : (plans : List PlanRecord) (moment : ℕ) (drained : Bool) (bytes : List ℕ) (begun : ℕ) (k : HeldConnection) (then_begun : ℕ) (l : HeldConnection) (jobs : List JobValue) (result : Result ℕ StepFault)
     → TakesBytes plans moment drained bytes begun k then_begun l jobs result → l.closed ≡ k.closed
-fed_closed plans moment drained bytes begun k then_begun l jobs result h10 = grind (arith, nat_tests)
+fed_closed plans moment drained bytes begun k then_begun l jobs result fact = grind (arith, nat_tests)
 
 fed_held : (n c : ℕ) (plans : List PlanRecord) (moment : ℕ) (drained : Bool) (bytes : List ℕ) (begun : ℕ) (k : HeldConnection) (then_begun : ℕ) (l : HeldConnection) (jobs : List JobValue) (result : Result ℕ StepFault)
     → TakesBytes plans moment drained bytes begun k then_begun l jobs result → IsHeld n c k → IsHeld n c l
@@ -72,7 +73,7 @@ feeds_serving number bytes v w result (there k l jobs k_is t m w_is) s =
     (fed_held v.opened number v.plans v.moment v.drained bytes v.begun k w.begun l jobs result t)
 
 pub hung_closed : (k l : HeldConnection) (result : Result ⊤ StepFault) → HangsUp k l result → l.closed ≡ k.closed
-hung_closed k l result h3 = grind (arith, nat_tests)
+hung_closed k l result fact = grind (arith, nat_tests)
 
 hung_is_held : (n c : ℕ) (k l : HeldConnection) (result : Result ⊤ StepFault) → HangsUp k l result → IsHeld n c k → IsHeld n c l
 hung_is_held n c k l result (unnoticed off r l_is) h = subst (IsHeld n c) (sym l_is) h
@@ -155,30 +156,39 @@ taken_like moment id branch outcome k l jobs took (lost i found out live t forge
   holds_forgotten id (lost_held i branch k) l forgets (holds_lost i branch k found.0 h),
 )
 
-pub starved_like : (id : CallId) (branch : ℕ) (k l : HeldConnection) (took : Took) → TakesStarved id branch k l took → Holds k → Like k l × Holds l
-starved_like id branch k l took (unknown out t l_is) h = (subst (Like k) (sym l_is) (like_itself k), subst Holds (sym l_is) h)
-starved_like id branch k l took (late i found out dead t forgets) h = search (arith, nat_tests, like_then, like_back, like_forgotten, holds_forgotten, holds_back)
-starved_like id branch k l took (lost i found out live t forgets) h = (
-  like_then k (lost_held i branch k) l (like_lost i branch k ((live_goes i k h found.0 live).0)) (like_forgotten id (lost_held i branch k) l forgets),
-  holds_forgotten id (lost_held i branch k) l forgets (holds_lost i branch k found.0 h),
-)
-
 pub results_serving : (id : CallId) (branch : ℕ) (outcome : Outcome) (v w : GatewayValue) (took : Took) → Results id branch outcome v w took → IsServing v → IsServing w
 results_serving id branch outcome v w took (absent none t tally w_is) s = same_serving v w (ap (λ (x : GatewayValue). x.conns) w_is) (ap (λ (x : GatewayValue). x.opened) w_is) s
 results_serving id branch outcome v w took (there k l jobs k_is t m tally w_is) s =
     let x = taken_like v.moment id branch outcome k l jobs took t (s.each id.conn k k_is).holds in
     left_serving id.conn k l v w m k_is (ap (λ (x : GatewayValue). x.opened) w_is) x.0 x.1 s
 
+-- what is known of none is as any result: of a call that can be decided it is lost, and of another its branch comes back
+starved_as : (moment : ℕ) (id : CallId) (branch : ℕ) (outcome : Outcome) (k l : HeldConnection) (took : Took) → TakesStarved id branch k l took → TakesResult moment id branch outcome k l [] took
+starved_as moment id branch outcome k l took (unknown out t l_is) = unknown out t l_is refl
+starved_as moment id branch outcome k l took (late i found out dead t forgets) =
+    let none : (kept_at i k.calls).call.live ≡ None = by (kept_at i k.calls).call.live dead in
+    settled i found out t (subst (λ x. Forgets id x l) (late_settles moment branch outcome i k none) forgets) (sym (ap (λ (s : Step). s.jobs) (late_step moment branch outcome i k none)))
+    (λ j d lt. absurd (omega (arith, lt)))
+  where
+    by : (o : Option Live) → is_none o ≡ true → o ≡ None
+    by o is = grind (arith, nat_tests)
+starved_as moment id branch outcome k l took (lost i found out live t forgets) = lost i found out live t forgets refl
+
+pub starved_like : (id : CallId) (branch : ℕ) (k l : HeldConnection) (took : Took) → TakesStarved id branch k l took → Holds k → Like k l × Holds l
+starved_like id branch k l took t h = taken_like 0 id branch (Answer []) k l [] took (starved_as 0 id branch (Answer []) k l took t) h
+
+pub starves_as : (id : CallId) (branch : ℕ) (outcome : Outcome) (v w : GatewayValue) (took : Took) → Starves id branch v w took → Results id branch outcome v w took
+starves_as id branch outcome v w took (absent none t tally w_is) = absent none t tally w_is
+starves_as id branch outcome v w took (there k l k_is t m tally w_is) =
+    there k l [] k_is (starved_as v.moment id branch outcome k l took t) m tally (w_is ∙ ap (λ js. record v { conns = w.conns; jobs = js; tally = w.tally }) (sym (append-nil v.jobs)))
+
 pub starves_serving : (id : CallId) (branch : ℕ) (v w : GatewayValue) (took : Took) → Starves id branch v w took → IsServing v → IsServing w
-starves_serving id branch v w took (absent none t tally w_is) s = same_serving v w (ap (λ (x : GatewayValue). x.conns) w_is) (ap (λ (x : GatewayValue). x.opened) w_is) s
-starves_serving id branch v w took (there k l k_is t m tally w_is) s =
-    let x = starved_like id branch k l took t (s.each id.conn k k_is).holds in
-    left_serving id.conn k l v w m k_is (ap (λ (x : GatewayValue). x.opened) w_is) x.0 x.1 s
+starves_serving id branch v w took r s = results_serving id branch (Answer []) v w took (starves_as id branch (Answer []) v w took r) s
 
 -- ---- replies
 
 pub reply_held : (n c : ℕ) (k l : HeldConnection) (reply : Option ReplyValue) → TakesReply k l reply → IsHeld n c k → (l.closed ≡ k.closed) × IsHeld n c l
-reply_held n c k l reply h5 h6 = grind (arith, nat_tests)
+reply_held n c k l reply fact further = search arith
 
 pub reply_serving : (number : ℕ) (v w : GatewayValue) (reply : Option ReplyValue) → TakesReplyAt number v w reply → IsServing v → IsServing w
 reply_serving number v w reply (absent none r w_is) s = subst IsServing (sym w_is) s

@@ -29,7 +29,7 @@ undecided_is id past lt = by_came (came id past) refl (has_come id past lt)
   where
     not_call : (y : Coming × Bool) → came id past ≡ Some y → ((a : ArrivedCall) (t : Option ℕ) → Some y ≡ Some (Request a.request (Asks a.plan t a.request_id), false) → ⊥)
         → is_undecided id past ≡ false
-    not_call y h1 h2 = grind (arith, nat_tests, called_came)
+    not_call y is each = grind (arith, nat_tests, called_came)
 
     by_came : (y : Option (Coming × Bool)) → came id past ≡ y → is_some (came id past) ≡ true → is_undecided id past ≡ is_none (entry id past)
     by_came None y_is some = absurd (let no_one : false ≡ true = rw y_is at some in cc)

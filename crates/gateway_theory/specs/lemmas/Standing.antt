@@ -73,7 +73,8 @@ call_forgotten v taken k os dead back h = grind arith
 pub connection_forgotten : (v : ConnectionValue) (taken : List ReplyEntry) (os : List Occurrence) → v.closed ≡ true → ((k : ℕ) → (v.calls k).live ≡ None)
     → ((k i : ℕ) → has_out (v.calls k) i ≡ false) → ConnectionStands v taken os → ConnectionStands (not_kept true v.number) taken os
 connection_forgotten v taken os shut dead back h = record {
-  conn = λ e. absurd (let f : ⊥ = cc in f);
+  taken_is = λ e. absurd (let f : ⊥ = cc in f);
+  slots_stand = λ e. absurd (let f : ⊥ = cc in f);
   calls = λ k. call_gone v.number k (v.calls k) (marked os) (dead k) (back k) (h.calls k);
   broken_is = refl;
   shut_is = ap (λ b. b || v.broken) (sym shut) ∙ h.shut_is;
@@ -113,7 +114,7 @@ with_entry c e h = record h { taken = λ d. if d == c then h.taken d ++ e ∷ []
 
 module _ (v : CoreValue) (h : History) (c : ℕ) (e : ReplyEntry) (rest : List (Option ReplyEntry)) (is : (v.conns c).slots ≡ Some e ∷ rest) where
   pub reply_conns : HasConns v h.opened h.events → HasConns (without_reply c rest v) h.opened h.events
-  reply_conns s = grind arith
+  reply_conns s = grind (arith, nat_tests)
 
   pub reply_lived : (lived : List Placed) → Lives v h lived → Lives (without_reply c rest v) (with_entry c e h) lived
   reply_lived lived l = record {

@@ -1,10 +1,10 @@
 -- What an occurrence makes of one call.
 use Rattle.std.specs.Prelude.{◌≡◌, ◌+◌, ◌<◌, ◌-◌, ◌∷◌, ◌++◌, ◌⊎◌, if◌then◌else◌, ◌&&◌, ◌==◌}
-use Rattle.gateway_theory.specs.lemmas.Names.{ℕ, suc, min, Bool, true, false, List, [], length, Option, None, Some, refl, sym, ap, ◌∙◌, subst, arith, ⊎_elim, nat_tests, is_some, not, option_and_then, slice_set, slice_index_or, option_or, option_map_or, cases_Bool, cases_eq, ltb-false, lt-ltb, le-ltb, eq-eqb, ne_eqb, and_parts, get_or-set_same, get_or-set_other, length-set, length-append, append-nil, get_or-eq_default, Outcome, Answer, Fail, CallId, Judged, Asks, job_of, task_of, Occurrence, Opening, Comes, HangUp, Moment, Result, Drain, Closing, Coming, Request, Refused, Break, CallEvent, Failed, Mark, Past, ArrivedCall, call, arrivals, coming_now, asked_now, asked_by, began, answers, started, is_out, is_result_of, is_answer_to, is_call, is_shut, shuts, event_by, own_event, decides, decided, can_be_decided, branch_deadlines, deadline_from, due_by, now, counts, mark_of, of_branch, Call as Calling, came, own_events, record_deadlines, record_of, entry, call_entry, jobs_started, kept, ended_by, ended_live, ending, entry_as, deadlines_in, deadlines_then, first_of, rest_of, next_out, is_last_answer, counted, result_on, step, moment_after, Live, call_state, is_live, tasks_from, LiveStands, MayLive, CallStands, Stepped}
+use Rattle.gateway_theory.specs.lemmas.Names.{ℕ, min, Bool, true, false, List, [], length, Option, None, Some, refl, sym, ap, ◌∙◌, subst, arith, ⊎_elim, nat_tests, is_some, not, option_and_then, slice_set, slice_index_or, option_or, option_map_or, cases_Bool, cases_eq, ltb-false, lt-ltb, le-ltb, eq-eqb, ne_eqb, and_parts, get_or-set_same, get_or-set_other, length-set, length-append, append-nil, get_or-eq_default, Outcome, Answer, Fail, CallId, Judged, Asks, job_of, task_of, Occurrence, Opening, Comes, HangUp, Moment, Result, Drain, Closing, Coming, Request, Refused, Break, CallEvent, Failed, Mark, Past, ArrivedCall, call, arrivals, coming_now, asked_now, asked_by, began, answers, started, is_out, is_result_of, is_answer_to, is_call, is_shut, shuts, event_by, own_event, decides, decided, can_be_decided, branch_deadlines, deadline_from, due_by, now, counts, mark_of, of_branch, Call as Calling, came, own_events, record_deadlines, record_of, entry, call_entry, jobs_started, kept, ended_by, ended_live, ending, entry_as, deadlines_in, deadlines_then, first_of, rest_of, next_out, is_last_answer, counted, result_on, step, moment_after, Live, call_state, is_live, tasks_from, LiveStands, MayLive, CallStands, Stepped}
 use Rattle.error_document.specs.declared.document.RpcError.{RpcError}
 use Rattle.gateway_model.specs.declared.call_event.CallEvent.TheVariants.{Answer as Answered, HungUp, Drained}
 use Rattle.gateway_theory.specs.lemmas.LimitLemmas.{out_started, same_call}
-use Rattle.gateway_theory.specs.lemmas.Unborn.{unborn}
+use Rattle.gateway_theory.specs.lemmas.PastLemmas.{unborn}
 use Rattle.gateway_theory.specs.lemmas.Cases.{and_none, and_true, and_false, or_none}
 use Rattle.gateway_theory.specs.Step.{ended}
 use Rattle.gateway_theory.specs.lemmas.Deadlines.{deadlines_same, deadlines_more, expires, outs_are}
@@ -236,18 +236,13 @@ tasks_none k id a e = grind arith
 pub tasks_next : (k : ℕ) (id : CallId) (a : ArrivedCall) → k < length a.plan.branches → tasks_from k id a ≡ task_of id a k ∷ tasks_from (k + 1) id a
 tasks_next k id a lt = grind arith
 
-answer_counts : (id : CallId) (i : ℕ) (body : List ℕ) (l : Live) (out : List Bool) (past : Past) → LiveStands id l out past → is_out id i past ≡ true
-    → answers id (comes_back id i (Answer body) past ∷ past) ≡ suc (answers id past)
-answer_counts id i body l out past h out_i =
-    rw (out_i, h.undecided, h.unshut, eq-eqb id.conn id.conn refl, eq-eqb id.request id.request refl) refl
-
 pub started_live : (id : CallId) (a : ArrivedCall) (past : Past) → call id past ≡ Some a → began id past ≡ true → started id past ≡ min (length a.plan.branches) (a.plan.limit + answers id past)
 started_live id a past call_is began_is = rw (began_is, call_is) refl
 
 next_case : (id : CallId) (i : ℕ) (body : List ℕ) (l : Live) (out : List Bool) (past : Past) → LiveStands id l out past → is_out id i past ≡ true
     → Past_it id (comes_back id i (Answer body) past) past
     → AllStarted id l (comes_back id i (Answer body) past) past ⊎ NextStarts id l (comes_back id i (Answer body) past) past
-next_case id i body l out past h out_i none = grind (arith, nat_tests, started_live, call_same, began_same, answer_counts, tasks_next, tasks_none)
+next_case id i body l out past h out_i none = grind (arith, nat_tests, started_live, call_same, began_same, tasks_next, tasks_none)
 
 -- what an answer that counts leaves of the branches and of the jobs
 pub record GoesOn (id : CallId) (i : ℕ) (l : Live) (out : List Bool) (m : Mark) (past : Past) : Type 0 where
@@ -299,11 +294,7 @@ goes_on id i body l out past h out_i none out_is =
     m = comes_back id i (Answer body) past
 
     one_starts : NextStarts id l m past → job_of id (started id past) l.asked (now past) ∷ [] ≡ jobs_started id m past
-    one_starts h0 = grind (arith, nat_tests)
-
-undecided_then : (id : CallId) (l : Live) (out : List Bool) (m : Mark) (past : Past) (e : CallEvent) → LiveStands id l out past
-    → own_event id m past ≡ Some e → decides (answers id past) (length l.asked.plan.branches) e ≡ false → decided id (m ∷ past) ≡ None
-undecided_then id l out m past e h own ends = rw (h.undecided, own, h.call_is, ends) refl
+    one_starts fact = grind (arith, nat_tests)
 
 answered : (id : CallId) (i : ℕ) (body : List ℕ) (l : Live) (out : List Bool) (past : Past) → LiveStands id l out past → Past_it id (comes_back id i (Answer body) past) past
     → ((k : ℕ) → slice_index_or out k false ≡ is_out id k past) → is_out id i past ≡ true
@@ -331,7 +322,7 @@ answered id i body l out past h none out_is out_i = by_last (is_last_answer l) r
           replies = ended_replies id l out m past (deadlines_then (now past) l) (Answered i body) h none own dec g.deadlines;
           starts = g.starts;
         })
-    by_last false b_is = grind (arith, nat_tests, m, decided_then, own, ends, g, decided_shut, ended_replies, undecided_then, call_same, began_same, own_then, length-append, answer_counts, same_replies)
+    by_last false b_is = grind (arith, m, decided_then, own, ends, g, decided_shut, ended_replies, call_same, began_same, own_then, length-append, same_replies)
 
 -- a result of a branch that is out
 result_out : (id : CallId) (i : ℕ) (outcome : Outcome) (out : List Bool) (live : Option Live) (past : Past) → Past_it id (comes_back id i outcome past) past
@@ -374,7 +365,7 @@ result_apart id of i outcome out live past none h apart = by_live live h.live_is
         (cases_eq i k))
       where
         by_call : (b : Bool) → is_call of id ≡ b → i ≡ k → (is_out id k past && not (is_result_of id k m.what)) ≡ is_out id k past
-        by_call b h1 h2 = grind (arith, nat_tests)
+        by_call b is also = grind (arith, nat_tests)
 
     by_live : (live : Option Live) → MayLive id live out past → Stepped id (kept (call_state out live)) m past
     by_live None l = shut_stepped id out m past l none no_answer outs
@@ -403,10 +394,10 @@ pub moment_ends : (moment : ℕ) (d : Option ℕ) (outs : List (Option ℕ)) (e 
 moment_ends moment d outs e a n h = ⊎_elim (λ own. rw own.0 refl) (λ branch. rw branch.1 refl) (expires moment d outs e h)
 
 hang_ends : (b : Bool) (e : CallEvent) (a n : ℕ) → (if b then Some HungUp else None) ≡ Some e → decides a n e ≡ true
-hang_ends b e a n h4 = grind (arith, nat_tests)
+hang_ends b e a n is = grind (arith, nat_tests)
 
 drain_ends : (e : CallEvent) (a n : ℕ) → Some Drained ≡ Some e → decides a n e ≡ true
-drain_ends e a n h3 = grind (arith, nat_tests)
+drain_ends e a n is = grind (arith, nat_tests)
 
 pub stepped : (id : CallId) (o : Occurrence) (out : List Bool) (live : Option Live) (past : Past) → Past_it id (mark_of past o) past
     → CallStands id (call_state out live) past → Stepped id (step (now past) id o (call_state out live)) (mark_of past o) past

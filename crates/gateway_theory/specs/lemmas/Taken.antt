@@ -50,10 +50,10 @@ module _ (n : ℕ) (v w : GatewayValue) (k l : HeldConnection) (k_is : conn_of n
   }
     where
       each : (d : ℕ) (b : Bool) → (n == d) ≡ b → connection d w ≡ (if d == n then reply_taken (drop 1 k.slots) (connection d v) else connection d v)
-      each d b h2 = grind (arith, nat_tests)
+      each d b is = grind (arith, nat_tests)
 
       stream : (d : ℕ) (b : Bool) → (n == d) ≡ b → stream_of (conn_of d w) ≡ stream_of (conn_of d v)
-      stream d b h2 = grind (arith, nat_tests)
+      stream d b is = grind (arith, nat_tests)
 
   some_lives : (h : History) (lived : List Placed) → Lives v h lived → Lives w (with_entry n e h) lived
   some_lives h lived x = fades_lives (without_reply n (drop 1 k.slots) (core_of v)) (core_of w) reply_fades (with_entry n e h) lived (reply_lived (core_of v) h n e (drop 1 k.slots) slots_are lived x)
@@ -128,7 +128,7 @@ its_told n v w (Some r) (there k l k_is t m w_is) s =
     t.1 ∙ ap (λ c. call_id c k.taken) (s.each n k k_is).number_is ∙ ap (λ (x : ConnectionValue). call_id n x.taken) (sym (there_value n v k k_is))
 
 pub none_told : (n : ℕ) (v w : GatewayValue) (reply : Option ReplyValue) → TakesReplyAt n v w reply → reply ≡ None → untaken_of n v ≡ []
-none_told n v w reply h4 h5 = grind (arith, nat_tests, absent_untaken, untaken_at, none_untaken)
+none_told n v w reply fact is = grind (arith, nat_tests, absent_untaken, untaken_at, none_untaken)
 
 pub only_told : (n : ℕ) (v w : GatewayValue) (reply : Option ReplyValue) → TakesReplyAt n v w reply → IsServing v → TakesOnly n v w
-only_told n v w reply h4 h5 = grind (arith, nat_tests)
+only_told n v w reply fact further = search arith

@@ -1,6 +1,6 @@
 -- What the calls of the gateway tell.
 use Rattle.std.specs.Prelude.{◌≡◌, ◌≤◌, ◌++◌, ◌&&◌, ◌||◌, if◌then◌else◌}
-use Rattle.gateway_theory.specs.lemmas.Names.{ℕ, Bool, true, false, List, [], length, None, Some, Err, refl, sym, ap, ◌∙◌, subst, arith, inl, inr, Option, nat_tests, IfOk, OnOk, nat_lt, not, take, ⊤, is_none, is_some, option_map, slice_index_or, lt-ltb, append-nil, HasReadTo, PlanRecord, arrival_of, JobValue, Request, StepFault, is_waiting, if_open, is_broken_conn, call_in, GatewayValue, conn_of, shown, HeldConnection, CallState, Live, call_state, call_at, ConnectionValue, TakesBytes, arriving_in, begins_call, broke, dropped, hears, most_begun, not_fed, read, unread, Forgets, TakesResult, TakesStarved, back_held, forgotten, has_out_in, late, left_of, lost, lost_held, result_in, settled, settled_held, stays, stepped_held, unknown, IsServing, NotListening, TakesSome, TellsStep, WouldBegin, Breaks, NoneSpent, Feeds, Moves, absent, there, HangsUpAt, Results, Starves, All-get_or, filter_passes, Outcome, History, is_whole, own, Past, call_id, can_be_decided, how_seen, marked, record_of, Placed, occurrences, CallId, Counted, Late, Unknown, seen_by, CallStands, LiveStands, MayLive, is_live, is_spent, has_out, IsFound, kept_at, Took, IsSeen, IsWanted, TellsTook}
+use Rattle.gateway_theory.specs.lemmas.Names.{ℕ, Bool, true, false, List, [], length, None, Some, Err, refl, sym, ap, ◌∙◌, subst, arith, inl, inr, Option, nat_tests, IfOk, OnOk, nat_lt, not, take, ⊤, is_none, is_some, option_map, slice_index_or, lt-ltb, append-nil, HasReadTo, PlanRecord, arrival_of, JobValue, Request, StepFault, is_waiting, if_open, is_broken_conn, call_in, GatewayValue, conn_of, shown, HeldConnection, CallState, Live, call_state, call_at, ConnectionValue, TakesBytes, arriving_in, begins_call, broke, dropped, hears, most_begun, not_fed, read, unread, Forgets, TakesResult, forgotten, has_out_in, left_of, lost, lost_held, result_in, settled, settled_held, stays, stepped_held, unknown, IsServing, NotListening, TakesSome, TellsStep, WouldBegin, Breaks, NoneSpent, Feeds, Moves, absent, there, HangsUpAt, Results, All-get_or, filter_passes, Outcome, History, is_whole, own, Past, call_id, how_seen, marked, record_of, Placed, occurrences, CallId, Counted, Late, Unknown, seen_by, CallStands, MayLive, is_live, is_spent, has_out, IsFound, kept_at, Took, IsSeen, IsWanted, TellsTook}
 use Rattle.std.proofs.Common.{Result}
 use Rattle.gateway_theory.specs.declared.fault.StepFault.TheVariants.{Exhausted, Gone}
 use Rattle.gateway_theory.specs.lemmas.StoreLemmas.{some_same, call_found}
@@ -20,10 +20,6 @@ use Rattle.gateway_theory.specs.lemmas.ServingSteps.{left_some, live_goes}
 
 -- ---- one that is not heard
 
--- a connection of that number, which is not heard
-pub deaf_kept : (n : ℕ) (v : GatewayValue) (k : HeldConnection) → conn_of n v ≡ Some k → hears k ≡ false → NotListening n v
-deaf_kept n v k k_is off l l_is = grind arith
-
 -- .. nobody hears it
 pub not_heard : (n : ℕ) (v : GatewayValue) (k : HeldConnection) → conn_of n v ≡ Some k → NotListening n v → hears k ≡ false
 not_heard n v k k_is off = grind arith
@@ -37,25 +33,25 @@ broken_now n v w k l k_is m opened_is s =
 
 module _ (plans : List PlanRecord) (moment : ℕ) (drained : Bool) (bytes : List ℕ) (begun : ℕ) (k : HeldConnection) (then_begun : ℕ) (l : HeldConnection) (jobs : List JobValue) (result : Result ℕ StepFault) where
   gone_fed : TakesBytes plans moment drained bytes begun k then_begun l jobs result → result ≡ Err Gone → (hears k ≡ false) × (l ≡ k) × (jobs ≡ []) × (then_begun ≡ begun)
-  gone_fed h0 h1 = grind (arith, nat_tests)
+  gone_fed fact is = grind (arith, nat_tests)
 
   deaf_fed : TakesBytes plans moment drained bytes begun k then_begun l jobs result → hears k ≡ false → result ≡ Err Gone
-  deaf_fed h0 h1 = grind (arith, nat_tests)
+  deaf_fed fact is = grind (arith, nat_tests)
 
   broke_fed : TakesBytes plans moment drained bytes begun k then_begun l jobs result → (f : StepFault) → (f ≡ Gone → ⊥) → result ≡ Err f → (not l.closed && l.broken) ≡ true
-  broke_fed h0 f h2 h3 = grind (arith, nat_tests)
+  broke_fed fact f each is = grind (arith, nat_tests)
 
   -- as many were begun as may be
   most_fed : TakesBytes plans moment drained bytes begun k then_begun l jobs result → result ≡ Err Exhausted → most_begun ≤ then_begun
-  most_fed h0 h1 = grind (arith, nat_tests)
+  most_fed fact is = grind (arith, nat_tests)
 
   -- what was taken leaves it heard
   heard_fed : TakesBytes plans moment drained bytes begun k then_begun l jobs result → OnOk result (hears l ≡ true)
-  heard_fed h0 = grind (arith, nat_tests)
+  heard_fed fact = grind (arith, nat_tests)
 
   -- some bytes, where there are some
   some_fed : is_waiting k.reader.reading ≡ false → TakesBytes plans moment drained bytes begun k then_begun l jobs result → IfOk result (TakesSome (length bytes))
-  some_fed h0 h1 = grind (arith, nat_tests)
+  some_fed is fact = grind (arith, nat_tests)
 
   -- the request that would begin a call
   begins_fed : (v : GatewayValue) (n : ℕ) → plans ≡ v.plans → moment ≡ v.moment → drained ≡ v.drained → conn_of n v ≡ Some k → TakesBytes plans moment drained bytes begun k then_begun l jobs result → result ≡ Err Exhausted → WouldBegin n bytes v
@@ -80,7 +76,7 @@ module _ (plans : List PlanRecord) (moment : ℕ) (drained : Bool) (bytes : List
 module _ (n : ℕ) (bytes : List ℕ) (v w : GatewayValue) (result : Result ℕ StepFault) (s : IsServing v) where
   pub fed_tells : Feeds n bytes v w result → TellsStep n v w result
   fed_tells (absent none r w_is) = grind arith
-  fed_tells (there k l jobs k_is t m w_is) = search (arith, nat_tests, deaf_kept, gone_fed, deaf_fed, not_heard, append-nil, broke_fed, most_fed, heard_fed, broken_now, hears_parts)
+  fed_tells (there k l jobs k_is t m w_is) = search (arith, nat_tests, gone_fed, deaf_fed, not_heard, append-nil, broke_fed, most_fed, heard_fed, broken_now, hears_parts)
 
   pub fed_begins : Feeds n bytes v w result → result ≡ Err Exhausted → WouldBegin n bytes v
   fed_begins (absent none r w_is) e = absurd (let clash = sym r ∙ e in cc)
@@ -91,25 +87,22 @@ module _ (n : ℕ) (bytes : List ℕ) (v w : GatewayValue) (result : Result ℕ 
   fed_takes (there k l jobs k_is t m w_is) = some_fed v.plans v.moment v.drained bytes v.begun k w.begun l jobs result (s.each n k k_is).settled t
 
   pub fed_listens : Feeds n bytes v w result → OnOk result (NotListening n w → ⊥)
-  fed_listens h0 = grind (arith, nat_tests)
+  fed_listens fact = grind (arith, nat_tests)
 
 -- ---- a hang-up
 
 pub hung_tells : (n : ℕ) (v w : GatewayValue) (result : Result ⊤ StepFault) → HangsUpAt n v w result → IsServing v → TellsStep n v w result
 hung_tells n v w result (absent none r w_is) s = grind arith
-hung_tells n v w result (there k l k_is t m w_is) s = search (arith, nat_tests, broken_now, deaf_kept, not_heard, hears_parts)
+hung_tells n v w result (there k l k_is t m w_is) s = search (arith, nat_tests, broken_now, not_heard, hears_parts)
 
 pub hung_exhausted : (n : ℕ) (v w : GatewayValue) (result : Result ⊤ StepFault) → HangsUpAt n v w result → result ≡ Err Exhausted → ⊥
-hung_exhausted n v w result h4 h5 = grind (arith, nat_tests)
+hung_exhausted n v w result fact is = grind (arith, nat_tests)
 
 -- ---- how a result is seen
 
-goes_live : (id : CallId) (l : Live) (out : List Bool) (past : Past) → LiveStands id l out past → can_be_decided id past ≡ true
-goes_live id l out past h = rw (h.undecided, h.unshut) refl
-
 seen_is : (id : CallId) (i : ℕ) (out : List Bool) (live : Option Live) (past : Past) → CallStands id (call_state out live) past
     → (b : Bool) → slice_index_or out i false ≡ b → seen_by (call_state out live) i ≡ how_seen id i past
-seen_is id i out live past h5 b h7 = grind (arith, nat_tests, shut_open, goes_live)
+seen_is id i out live past fact b is = grind (arith, nat_tests, shut_open)
 
 -- what is kept of a call stands for its connection's own past
 call_stands : (id : CallId) (v : GatewayValue) (h : History) (lived : List Placed) → Lives v h lived → CallStands id (call_in id v) (marked (own id.conn (occurrences lived)))
@@ -144,7 +137,7 @@ not_whole_dead id v s off = by (conn_of id.conn v) refl
         ∙ dead_call (call_id k.number id.request) k.calls ((s.each id.conn k is).holds.dead (shut k.closed k.broken refl refl))
       where
         shut : (a b : Bool) → k.closed ≡ a → k.broken ≡ b → (k.closed || k.broken) ≡ true
-        shut a b h2 h3 = grind (arith, nat_tests)
+        shut a b one other = grind (arith, nat_tests)
 
 pub wanted_told : (id : CallId) (v : GatewayValue) → IsServing v → (wanted : Bool) → wanted ≡ is_some (call_in id v).live → IsWanted id v wanted
 wanted_told id v s wanted kept = record {
@@ -250,16 +243,3 @@ result_tells id branch outcome v w took (there k l jobs k_is t m tally w_is) s =
         (ap (λ (x : HeldConnection). x.broken) (replied_rest (kept_at i k.calls).id.request (result_in v.moment i branch outcome k).reply (stepped_held i (result_in v.moment i branch outcome k) k)))
         (like_settled v.moment i branch outcome k).closed_is found out t forgets
     by (lost i found out live t forgets none) = lost_tells id branch v w took s k l k_is m opened_is i found out live t forgets
-
-pub starved_tells : (id : CallId) (branch : ℕ) (v w : GatewayValue) (took : Took) → Starves id branch v w took → IsServing v → TellsTook id branch took v w
-starved_tells id branch v w took (absent none t tally w_is) s = unknown_tells id branch v w took s (ap (λ (x : ConnectionValue). has_out (x.calls id.request) branch) (absent_value id.conn v none)) t w_is
-starved_tells id branch v w took (there k l k_is t m tally w_is) s = by t
-  where
-    opened_is : w.opened ≡ v.opened
-    opened_is = ap (λ (x : GatewayValue). x.opened) w_is
-
-    by : TakesStarved id branch k l took → TellsTook id branch took v w
-    by (unknown out t l_is) = unknown_tells id branch v w took s (out_there id branch v w took s k l k_is m opened_is out) t
-        (unknown_same id v w k l [] k_is s m (w_is ∙ ap (λ js. record v { conns = w.conns; jobs = js; tally = w.tally }) (sym (append-nil v.jobs))) l_is refl)
-    by (late i found out dead t forgets) = settled_tells id branch v w took s k l k_is m opened_is (back_held i branch k) i refl refl found out t forgets
-    by (lost i found out live t forgets) = lost_tells id branch v w took s k l k_is m opened_is i found out live t forgets

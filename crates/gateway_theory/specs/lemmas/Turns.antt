@@ -1,6 +1,6 @@
 -- How a step turns a connection, and how it grows.
 use Rattle.std.specs.Prelude.{◌≡◌, ◌<◌, ◌∷◌, ◌++◌, ◌==◌, ◌||◌, if◌then◌else◌, ◌&&◌}
-use Rattle.gateway_theory.specs.lemmas.Names.{ℕ, suc, Bool, true, false, List, [], length, Option, None, Some, refl, sym, ap, ◌∙◌, subst, append_assoc, arith, nat_tests, nat_lt, not, append-nil, All-get_or, Outcome, IsPrefixOf, front, ReplyEntry, CallId, KeptValue, is_broken_value, is_open_value, untaken_value, HeldConnection, connection_of, GatewayValue, conn_of, value_of, Step, kept_at, no_call, Trigger, filled, Forgets, Holds, back_held, broken_held, ended_entry, ended_held, entered_held, forgotten, lost_held, result_in, settled_held, stays, stepped_held, left_of, option_map_or, eqb-true, lt-ltb, if_open, Moves}
+use Rattle.gateway_theory.specs.lemmas.Names.{ℕ, suc, Bool, true, false, List, [], length, Option, None, Some, refl, sym, ap, ◌∙◌, subst, append_assoc, arith, nat_tests, nat_lt, not, append-nil, All-get_or, Outcome, IsPrefixOf, front, ReplyEntry, CallId, KeptValue, is_broken_value, is_open_value, untaken_value, HeldConnection, connection_of, GatewayValue, conn_of, value_of, Step, kept_at, no_call, Trigger, filled, Forgets, Holds, broken_held, ended_entry, ended_held, entered_held, forgotten, lost_held, result_in, settled_held, stays, stepped_held, left_of, option_map_or, eqb-true, lt-ltb, if_open, Moves}
 use Rattle.gateway_theory.specs.lemmas.HeldValues.{late_step, replied_rest, replied_slots}
 use Rattle.gateway_theory.specs.lemmas.Broadcast.{filled_none}
 use Rattle.gateway_theory.specs.lemmas.Moving.{dead_call}
@@ -41,9 +41,6 @@ grown_forgotten id k l (forgotten spent is) = grown_same k l (ap (λ (x : HeldCo
 
 pub grown_lost : (i branch : ℕ) (k : HeldConnection) → Grown k (lost_held i branch k)
 grown_lost i branch k = grown_same k (lost_held i branch k) refl (λ e. refl) refl
-
-pub grown_back : (i branch : ℕ) (k : HeldConnection) → Grown k (back_held i branch k)
-grown_back i branch k = grown_same k (back_held i branch k) refl (λ e. e) refl
 
 -- slots are filled, but for one that is broken
 grown_filled : (reply : ℕ → Option ReplyEntry) (k : HeldConnection) → (k.broken ≡ true → (r : ℕ) → reply r ≡ None) → Grown k (record k { slots = filled reply k.taken k.slots })
@@ -109,10 +106,6 @@ turns_born n m c o is = grind (arith, nat_tests, append-nil)
 pub silent_some : (n c : ℕ) (k : HeldConnection) → silent_at n c (Some k) ≡ (nat_lt c n && (k.closed || k.broken))
 silent_some n c k = grind arith
 
-and_left : (a b : Bool) → (a && b) ≡ true → a ≡ true
-and_left true b e = refl
-and_left false b e = absurd (cc)
-
 and_right : (a b : Bool) → (a && b) ≡ true → b ≡ true
 and_right true b e = e
 and_right false b e = absurd (cc)
@@ -126,11 +119,11 @@ module _ (n c : ℕ) (k l : HeldConnection) (g : Grown k l) where
 
   -- it became another
   pub turns_grown : Turns n n c (Some k) (Some l)
-  turns_grown = grind (arith, nat_tests, silent_some, and_left, stays_off, and_right, open_same)
+  turns_grown = grind (arith, nat_tests, silent_some, stays_off, and_right, open_same)
 
   -- .. and is gone, or not
   pub turns_left : c < n → Turns n n c (Some k) (left_of l)
-  turns_left born = grind (arith, nat_tests, and_left, turns_grown, lt-ltb)
+  turns_left born = grind (arith, nat_tests, turns_grown, lt-ltb)
 
 -- ---- the words of the gateway
 

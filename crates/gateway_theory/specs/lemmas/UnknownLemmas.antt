@@ -1,10 +1,15 @@
 -- A result of a branch that is not out changes nothing.
-use Rattle.std.specs.Prelude.{◌≡◌, ◌<◌, ◌∷◌, ◌++◌, ◌&&◌, ◌==◌}
-use Rattle.gateway_theory.specs.lemmas.Names.{ℕ, zero, suc, true, false, List, replicate, refl, sym, ◌∙◌, arith, ⊎_elim, nat_tests, nat_lt, cases_Bool, eqb-true, and_parts, ltb-false, Outcome, Unknown, CallId, Occurrence, Result, Mark, Past, is_call, can_be_decided, is_out, how_seen, started, mark_of, marked, replies}
+use Rattle.std.specs.Prelude.{◌≡◌, ◌∷◌, ◌<◌, ◌++◌, ◌&&◌, ◌==◌}
+use Rattle.gateway_theory.specs.lemmas.Names.{ℕ, arith, Outcome, Counted, CallId, Result, Past, how_seen, mark_of, replies, zero, suc, true, false, List, replicate, refl, sym, ◌∙◌, ⊎_elim, nat_tests, nat_lt, cases_Bool, eqb-true, and_parts, ltb-false, Unknown, Occurrence, Mark, is_call, can_be_decided, is_out, started, marked}
 use Rattle.gateway_theory.specs.lemmas.Cases.{and_true}
-use Rattle.gateway_theory.specs.lemmas.JobLemmas.{uncounted_replies}
 use Rattle.gateway_theory.specs.lemmas.LimitLemmas.{out_started, same_call}
 use Rattle.gateway_theory.specs.lemmas.StandsLemmas.{Quiet, result_quiet, started_same}
+
+-- ---- results that do not count
+
+pub uncounted_replies : (id : CallId) (i : ℕ) (outcome : Outcome) (past : Past) (conn : ℕ) → (how_seen id i past ≡ Counted → ⊥)
+    → replies conn (mark_of past (Result id i outcome) ∷ past) ≡ replies conn past
+uncounted_replies id i outcome past conn h = grind arith
 
 not_out : (id : CallId) (i : ℕ) (past : Past) → how_seen id i past ≡ Unknown → is_out id i past ≡ false
 not_out id i past unknown = grind arith

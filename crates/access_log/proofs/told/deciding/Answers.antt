@@ -1,6 +1,6 @@
 use Rattle.std.proofs.Common.{◌∙◌, sym, ap}
 use Rattle.gateway_model.specs.CallRecord.{CallRecord, last_event}
-use Rattle.gateway_theory.specs.lemmas.AnsweringLemmas.{last_is}
+use Rattle.gateway_theory.specs.lemmas.ReplyLemmas.{last_is}
 use Rattle.access_log.proofs.told.deciding.Goals as goal
 
 pub returns : goal.returns

@@ -1,5 +1,5 @@
 use Rattle.gateway_replies.proofs.Names.{◌∙◌}
-use Rattle.gateway_theory.specs.lemmas.AnsweringLemmas.{ending_in, if_ok}
+use Rattle.gateway_theory.specs.lemmas.ReplyLemmas.{ending_in, if_ok}
 use Rattle.gateway_replies.proofs.decided.last_ending.Goals as goal
 
 pub returns-in-Some : goal.returns-in-Some

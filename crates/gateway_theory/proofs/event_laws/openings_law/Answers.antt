@@ -1,6 +1,6 @@
 use Rattle.std.specs.Prelude.{◌∷◌, ◌++◌}
 use Rattle.gateway_theory.specs.lemmas.Names.{[]}
-use Rattle.gateway_theory.specs.lemmas.LaterOpenings.{same_count, same_openings}
+use Rattle.gateway_theory.specs.lemmas.OneEvent.{same_count, same_openings}
 use Rattle.gateway_theory.specs.lemmas.ServedOpens.{shrunk, grown, occurs_before}
 use Rattle.gateway_theory.proofs.event_laws.openings_law.Goals as goal
 

@@ -1,5 +1,5 @@
 use Rattle.gateway_connection.specs.lemmas.Names.{ap, ◌∙◌, is_some}
-use Rattle.gateway_theory.specs.lemmas.ArrivalLemmas.{no_call, timely}
+use Rattle.gateway_theory.specs.lemmas.EventLemmas.{no_call, timely}
 use Rattle.gateway_connection.proofs.connection.Connection.arriving.Goals as goal
 
 pub new-requires-clause-timely : goal.new-requires-clause-timely
