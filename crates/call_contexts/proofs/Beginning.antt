@@ -1,13 +1,12 @@
 -- A connection that opens, and a call that begins.
-use Rattle.call_contexts.proofs.Names.{◌≡◌, refl, sym, ap, ◌∙◌, ℕ, ◌≤◌, ◌<◌, List, [], ◌∷◌, ◌++◌, Option, Some, None, true, false, ⊎_elim, arith, subst, is_some, ◌^◌, All, map, option_and_then, unwrap_or, Result, Err, IfErr, option_or, list_any_none as none_any, cases_Bool, append-nil, map-append, All-nil, All-push, All-weaker, or-false, Kind, Cancel, Value, Id, same, Makes, held, handed, IsLawful, TreeValue, StandsFor, is_among, AfterFuncs, AfterFunc, registered, waiting, Life, Standing, cause_in, ended_conn, if_due, seen, seen_conn, seen_call, value_in, is_conn, is_call, is_fresh, seen_branch, opened, begun, Op, TreeLaws, IsSound, IsLife, IsConn, Touches, kind_of, moment_of, with_call, contexts, hook_of, kept_of, Distinct, IsTwig, IsUnhanded, all_ids, ids_in, ids_of, let_go, twig_ids, nat_tests}
+use Rattle.call_contexts.proofs.Names.{◌≡◌, refl, sym, ap, ◌∙◌, ℕ, ◌≤◌, ◌<◌, List, [], ◌∷◌, ◌++◌, Option, Some, None, true, false, ⊎_elim, arith, subst, is_some, All, map, option_and_then, unwrap_or, option_or, list_any_none as none_any, cases_Bool, append-nil, map-append, All-nil, All-push, All-weaker, or-false, Kind, Cancel, Value, Id, same, Makes, held, handed, IsLawful, TreeValue, StandsFor, is_among, AfterFuncs, AfterFunc, registered, waiting, Life, Standing, cause_in, ended_conn, if_due, seen, seen_conn, seen_call, value_in, is_conn, is_call, is_fresh, seen_branch, opened, begun, Op, TreeLaws, IsSound, IsLife, IsConn, Touches, kind_of, moment_of, with_call, contexts, hook_of, kept_of, Distinct, IsTwig, IsUnhanded, all_ids, ids_in, ids_of, let_go, Rising, makes, numbers_of, twig_ids, nat_tests}
 use Rattle.std.proofs.lemmas.List.{append_assoc}
-use Rattle.after_funcs.specs.declared.error.AfterError.{AfterError}
-use Rattle.after_funcs.specs.declared.error.AfterError.TheVariants.{Exhausted, Memory}
 use Rattle.after_funcs.specs.Stands.{StandsFor as HooksStand}
 use Rattle.call_contexts.proofs.Trees.{same_turned, shown, shown_request, far_one, far_new, touch_made, made_held}
 use Rattle.call_contexts.proofs.Making.{born_ended, or_none, call_new, call_touches, call_held, holder_held, call_ended}
 use Rattle.call_contexts.proofs.Seeing.{call_as, ended_found}
 use Rattle.call_contexts.proofs.Lists.{any_map}
+use Rattle.call_contexts.proofs.Order.{rising_push}
 use Rattle.call_contexts.proofs.Framing.{all_far, all_seen, calls_kept, conns_kept, framed_sound}
 use Rattle.call_contexts.proofs.Distinct.{Far, between, distinct_more}
 use Rattle.call_contexts.proofs.Family.{among_in, among_left}
@@ -140,6 +139,17 @@ module _ {C V H : Type 0} (laws : TreeLaws C V) {f : AfterFuncs H} {base : Id} {
       (All-push (IsUnhanded after) calls l (All-weaker (IsUnhanded s.past) (IsUnhanded after) (unhanded_begun l.holder request_id) calls s.unhanded)
       (unhanded_begun l.holder request_id l (new_unhanded, subst (All (λ t. handed t.ctx s.past ≡ false)) (sym bare) (All-nil (λ t. handed t.ctx s.past ≡ false)))))
 
+  made_later : (holder : Option Id) (r : Option V) → IsLawful (with_call l.ctx holder l.conn l.deadline now r s.past) → makes s.past ≤ l.ctx.0
+  made_later None r lawful = omega (arith, lawful.0)
+  made_later (Some h) None lawful = omega (arith, lawful.0)
+  made_later (Some h) (Some r) lawful = omega (arith, lawful.0)
+
+  -- its context is the last by its number
+  pub begun_rises : Rising (numbers_of calls) → Rising (numbers_of (calls ++ l ∷ []))
+  begun_rises rising = rising_push calls l rising (All-weaker (IsLife s.past base) (λ m. m.ctx.0 < l.ctx.0)
+      (λ m is. omega (arith, laws.held_below s.past m.ctx (kind_of (unwrap_or m.holder m.conn) m.deadline) s.tree_is.contexts.lawful is.call_is, made_later l.holder request_id st.contexts.lawful))
+      calls s.calls_are)
+
   request_begun : (holder : Option Id) (r : Option V) → is_some holder ≡ is_some r → (t : StandsFor new (with_call l.ctx holder l.conn l.deadline now r s.past)) → option_and_then (value_in new.slots) holder ≡ r
   request_begun None None same_there t = refl
   request_begun None (Some r) same_there t = cc
@@ -192,8 +202,3 @@ module _ {C V H : Type 0} (laws : TreeLaws C V) {f : AfterFuncs H} {base : Id} {
 pub handed_back : {C V : Type 0} (ctx conn : Id) (at : Option ℕ) (now : ℕ) (past : List (Op C V)) (holder : Option Id) (r : Option V) (x : Id)
     → handed x (let_go ctx holder (with_call ctx holder conn at now r past)) ≡ handed x past
 handed_back ctx conn at now past holder r x = grind (arith, nat_tests)
-
--- the hook that is refused comes back
-pub given_back : {A H : Type 0} (n : ℕ) (hook : H) (refused : H × AfterError) (answer : Result A (H × AfterError)) → answer ≡ Err refused
-    → (2 ^ 62 ≤ n → answer ≡ Err (hook, Exhausted)) → (n < 2 ^ 62 → IfErr answer (λ r. r ≡ (hook, Memory))) → refused.0 ≡ hook
-given_back {A = A} {H = H} n hook refused answer is full short = grind arith

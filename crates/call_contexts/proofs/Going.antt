@@ -1,7 +1,8 @@
 -- The contexts of a call's branches go, one after the other, the last first.
-use Rattle.call_contexts.proofs.Names.{◌≡◌, refl, sym, ap, ◌∙◌, arith, ℕ, zero, suc, ◌<◌, List, [], ◌∷◌, length, subst, slice_set, slice_index_or, length-append, Id, Releases, TreeValue, StandsFor, AfterFuncs, Life, Twig, bare_call, seen, seen_branches, Op, BranchesGo, IsFree, IsPlaced, IsSound, IsWithout, nat_tests}
+use Rattle.call_contexts.proofs.Names.{◌≡◌, refl, sym, ap, ◌∙◌, arith, ℕ, zero, suc, ◌<◌, List, [], ◌∷◌, length, subst, slice_set, slice_index_or, length-append, Id, Releases, TreeValue, StandsFor, AfterFuncs, Life, Twig, bare_call, seen, seen_branches, Op, BranchesGo, IsFree, IsPlaced, IsSound, IsWithout, names_of, nat_tests}
 use Rattle.call_contexts.proofs.Branches.{bare_turned}
 use Rattle.call_contexts.proofs.Branching.{same_set, seen_same, seen_taken, sound_taken}
+use Rattle.call_contexts.proofs.Order.{set_same}
 
 -- how many branches the call at that place has
 abbrev pub left_at : ℕ → List Life → ℕ
@@ -31,15 +32,20 @@ placed_set id (suc i) x (l ∷ ls) lt own = placed_set id i x ls (omega (arith, 
 pub record SomeGone {C V H : Type 0} (id : Id) (place : ℕ) (old now : TreeValue C V) (f : AfterFuncs H) (base : Id) (conns : List Id) (calls left : List Life) : Type 0 where
   pub sound : IsSound now f base conns left
   pub placed : IsPlaced id place left
+  pub names_are : names_of left ≡ names_of calls
   pub bare_is : bare_call id (seen now.slots base conns left) ≡ bare_call id (seen old.slots base conns calls)
 
 module _ {C V H : Type 0} (id : Id) (i : ℕ) {old now : TreeValue C V} {f : AfterFuncs H} (base : Id) (conns : List Id) (calls left : List Life) (x : Life) (ts : List Twig) (lt : i < length left)
     (x_is : x ≡ slice_index_or left i x) (g : SomeGone id i old now f base conns calls left) where
+  names_set : names_of (slice_set left i (record x { twigs = ts })) ≡ names_of left
+  names_set = sym (set_same (λ (k : Life). (k.id, k.ctx)) (λ m us. refl) i x ts left x_is)
+
   pub one_gone : (t : Twig) → IsWithout t x.twigs ts → (new : TreeValue C V) → ((past : List (Op C V)) → StandsFor now past → IsFree t.ctx past → StandsFor new (Releases t.ctx ∷ past))
       → SomeGone id i old new f base conns calls (slice_set left i (record x { twigs = ts }))
   one_gone t w new frees = record {
     sound = sound_taken g.sound id i x ts lt g.placed x_is new t w frees;
     placed = placed_set id i (record x { twigs = ts }) left lt (ap (λ (k : Life). k.ctx) x_is ∙ g.placed x);
+    names_are = names_set ∙ g.names_are;
     bare_is = ap (bare_call id) (seen_taken g.sound id i x ts lt g.placed x_is new t w frees (λ c. seen_branches now.slots ts) refl)
         ∙ bare_turned id (λ c. seen_branches now.slots ts) (seen now.slots base conns left) ∙ g.bare_is;
   }
@@ -50,4 +56,5 @@ module _ {C V H : Type 0} (id : Id) (i : ℕ) {old now : TreeValue C V} {f : Aft
       record {
         sound = subst (IsSound now f base conns) (sym set_is) g.sound;
         seen_is = ap (seen now.slots base conns) set_is ∙ seen_same g.sound id i x ts lt g.placed x_is now (λ c. []) (sym (ap (seen_branches now.slots) none)) ∙ g.bare_is;
+        names_are = names_set ∙ g.names_are;
       }

@@ -1,5 +1,5 @@
 -- The hooks of calls, which stand as the calls do.
-use Rattle.call_contexts.proofs.Names.{◌≡◌, refl, sym, ap, ◌∙◌, arith, ℕ, ◌<◌, suc, List, [], ◌∷◌, ◌++◌, drop, Option, Some, Bool, true, false, ⊎_elim, subst, nat_eq, is_some, not, map, filter, All, Result, IfSome, list_any, AllPairs, cases_Bool, eqb-true, map-append, All-nil, All-cons, All-head, All-tail, All-map, All-from_get_or, same_Some, Id, same, AfterFuncs, Operation, AfterFunc, Fire, RunNext, Stop, registered, waiting, due, is_on, IsAnswerOfFirst, Life, WithHooks, Slots, on_ctx, hook_for, seen_call, hook_of, kept_of, life_at, NoTwo, same_ctx, nat_tests}
+use Rattle.call_contexts.proofs.Names.{◌≡◌, refl, sym, ap, ◌∙◌, arith, ℕ, ◌<◌, suc, List, [], ◌∷◌, ◌++◌, drop, Option, Some, Bool, true, false, ⊎_elim, subst, nat_eq, is_some, not, map, filter, All, Result, IfSome, list_any, AllPairs, cases_Bool, eqb-true, map-append, All-nil, All-cons, All-head, All-tail, All-map, All-from_get_or, same_Some, Id, same, AfterFuncs, Operation, AfterFunc, Fire, RunNext, Stop, registered, waiting, due, is_on, IsAnswerOfFirst, Life, WithHooks, Slots, on_ctx, hook_for, seen_call, hook_of, kept_of, life_at, NoTwo, same_ctx, Rising, nat_tests}
 use Rattle.std.proofs.Common.{eq-eqb}
 use Rattle.std.specs.declared.alloc.AllocError.{AllocError}
 use Rattle.after_funcs.specs.declared.registration.Registration.{Registration}
@@ -37,7 +37,7 @@ map_drop_one : {A B : Type 0} (f : A → B) (xs : List A) → map f (drop 1 xs) 
 map_drop_one f [] = refl
 map_drop_one f (x ∷ xs) = refl
 
-map_twice : {A B C : Type 0} (f : B → C) (g : A → B) (xs : List A) → map f (map g xs) ≡ map (λ x. f (g x)) xs
+pub map_twice : {A B C : Type 0} (f : B → C) (g : A → B) (xs : List A) → map f (map g xs) ≡ map (λ x. f (g x)) xs
 map_twice f g [] = refl
 map_twice f g (x ∷ xs) = ap (λ l. f (g x) ∷ l) (map_twice f g xs)
 
@@ -73,10 +73,6 @@ module _ {H : Type 0} (id : Id) (hooks : List (Operation H)) (calls : List Life)
   fired_answer {O = O} gives event answer is any = grind (arith, nat_tests, some_left, map_nil, those_on, due_is)
 
 -- ---- the hook that is stopped
-
-abbrev Rising : List ℕ → Type 0
-Rising [] = Unit {0}
-Rising (n ∷ ns) = All (λ m. n < m) ns × Rising ns
 
 above : {H : Type 0} (n : ℕ) (ss : List (Registration H)) → All (λ s. n < s.id) ss → All (λ m. n < m) (map (λ s. s.id) ss)
 above n [] a = All-nil (λ m. n < m)

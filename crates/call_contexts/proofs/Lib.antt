@@ -16,3 +16,5 @@ pub mod Going
 pub mod Sooner
 pub mod Deadlines
 pub mod Ended
+pub mod Order
+pub mod Indexing

@@ -1,5 +1,5 @@
 -- What is seen after a moment, a cancel and a drain.
-use Rattle.call_contexts.proofs.Names.{◌≡◌, refl, sym, ap, ◌∙◌, arith, ℕ, ◌≤◌, List, [], ◌∷◌, Option, Some, None, Bool, true, false, ⊎_elim, find, ◌&&◌, ◌||◌, ◌==◌, min, map, All, option_map, option_and_then, unwrap_or, option_or, All-head, All-map, All-tail, All-weaker, cases_Bool, or-true, Kind, Background, Cancel, Deadline, Value, Id, Ended, same, Makes, Cancels, Advances, held, chain, deadline, sooner, has_cancel, ending, TreeValue, StandsFor, IsFirstDeadline, IsNotAfter, IsLawful, is_among, is_ended_by_cancel, AfterFuncs, CallId, Life, Twig, Conn, Call, IsNoSooner, AreNoSooner, Slots, cause_in, value_in, seen, seen_conn, seen_call, Branch, seen_branch, seen_branches, call_for, ctx_for, first_of, ends_call, ends_branch, expires_branch, expires_call, ends_conn, if_cancelled, if_due, is_conn, ended_conn, expired, all_ended, Op, TreeLaws, IsSound, IsLife, IsConn, IsHolder, IsTwig, kind_of, life_for, IsUnhanded, why, nat_tests}
+use Rattle.call_contexts.proofs.Names.{◌≡◌, refl, sym, ap, ◌∙◌, arith, ℕ, ◌≤◌, List, [], ◌∷◌, Option, Some, None, Bool, true, false, ⊎_elim, ◌&&◌, ◌||◌, min, map, All, option_map, option_and_then, unwrap_or, option_or, All-head, All-map, All-tail, All-weaker, cases_Bool, or-true, Kind, Background, Cancel, Deadline, Value, Id, Ended, same, Makes, Cancels, Advances, held, chain, deadline, sooner, has_cancel, ending, TreeValue, StandsFor, IsFirstDeadline, IsNotAfter, IsLawful, is_among, is_ended_by_cancel, AfterFuncs, CallId, Life, Twig, Conn, Call, IsNoSooner, AreNoSooner, Slots, cause_in, value_in, seen, seen_conn, seen_call, Branch, seen_branch, seen_branches, call_for, ctx_for, ends_call, ends_branch, expires_branch, expires_call, ends_conn, if_cancelled, if_due, is_conn, ended_conn, expired, all_ended, Op, TreeLaws, IsSound, IsLife, IsConn, IsHolder, IsTwig, kind_of, life_for, IsUnhanded, why, nat_tests}
 use Rattle.context_tree.specs.declared.error.Cause.{Cause}
 use Rattle.context_tree.specs.declared.error.Cause.TheVariants.{Given}
 use Rattle.gateway_model.specs.Past.{is_call}
@@ -76,10 +76,6 @@ module _ {C V : Type 0} where
   pub ctx_kept : (slots : Slots C V) (id : CallId) (ls : List Life) → ctx_for id (map (seen_call slots) ls) ≡ option_map (λ l. l.ctx) (life_for id ls)
   ctx_kept slots id [] = refl
   ctx_kept slots id (l ∷ ls) = ⊎_elim (λ (y : is_call l.id id ≡ true). rw y refl) (λ (n : is_call l.id id ≡ false). rw n (ctx_kept slots id ls)) (cases_Bool (is_call l.id id))
-
-  pub first_kept : (slots : Slots C V) (number : ℕ) (ls : List Life) → first_of number (map (seen_call slots) ls) ≡ option_map (λ l. l.id) (find (λ l. l.id.conn == number) ls)
-  first_kept slots number [] = refl
-  first_kept slots number (l ∷ ls) = grind (arith, first_kept slots number ls)
 
   pub conn_as : (slots : Slots C V) (x : Id) (e : Option (Cause C)) → cause_in slots x ≡ e → seen_conn slots x ≡ record { id = x; ended = e }
   conn_as slots x e is = ap (λ b. record { id = x; ended = b }) is

@@ -1,11 +1,11 @@
 -- How the connections and calls are kept in a tree of contexts and a table of hooks.
-use Rattle.std.specs.Prelude.{◌≡◌, ◌||◌, ◌==◌, ℕ, Bool, true, false, is_some, nat_le, List, [], ◌∷◌, ◌++◌, map, slice_index_or, if◌then◌else◌, All, IfNone, IfSome, Option, Some, None, option_map, unwrap_or}
+use Rattle.std.specs.Prelude.{◌≡◌, ◌<◌, ◌||◌, ◌==◌, ℕ, Bool, true, false, is_some, nat_le, List, [], ◌∷◌, ◌++◌, map, slice_index_or, if◌then◌else◌, All, IfNone, IfSome, Option, Some, None, option_map, option_and_then, unwrap_or}
 use Rattle.std.specs.List.{find, list_any}
-use Rattle.std.specs.Option.{option_map_or}
+use Rattle.std.specs.Option.{option_map_or, option_or}
 use Rattle.context_tree.specs.declared.error.Cause.{Cause}
 use Rattle.context_tree.specs.declared.node.Kind.{Kind}
 use Rattle.context_tree.specs.declared.node.Kind.TheVariants.{Background, Cancel, Deadline, Value}
-use Rattle.context_tree.specs.Context.{Id, TreeOp, Makes, Releases, HasChild, same, held, parent_of, follows, line, chain, handed, has_cancel, ending}
+use Rattle.context_tree.specs.Context.{Id, TreeOp, Makes, Releases, HasChild, same, held, parent_of, follows, line, chain, handed, has_cancel, ending, makes}
 use Rattle.context_tree.specs.Tree.{TreeValue, StandsFor, IsLawful, is_among}
 use Rattle.after_funcs.specs.declared.callbacks.AfterFuncs.{AfterFuncs}
 use Rattle.after_funcs.specs.declared.registration.Registration.{Registration}
@@ -31,6 +31,7 @@ pub record TreeLaws (C V : Type 0) : Type 0 where
   pub new_unheld : (past : List (TreeOp C V)) (id : Id) (kind : Kind C V) (now : ℕ) → IsLawful (Makes id kind now ∷ past) → held id past ≡ None
   pub new_childless : (past : List (TreeOp C V)) (id : Id) (kind : Kind C V) (now : ℕ) → IsLawful (Makes id kind now ∷ past)
       → HasChild id (Makes id kind now ∷ past) → ⊥
+  pub held_below : (past : List (TreeOp C V)) (x : Id) (kind : Kind C V) → IsLawful past → held x past ≡ Some kind → x.0 < makes past
   pub line_goes_on : (past : List (TreeOp C V)) (x : Id) (kind : Kind C V) → IsLawful past → held x past ≡ Some kind
       → line x past ≡ (x, kind) ∷ option_map_or (λ p. line p past) (parent_of kind) []
   pub chain_goes_on : (past : List (TreeOp C V)) (x : Id) (kind : Kind C V) → IsLawful past → held x past ≡ Some kind
@@ -139,6 +140,22 @@ kept_of l = (l.hook, l.ctx)
 abbrev pub same_ctx : Life → Life → Bool
 same_ctx l m = same m.ctx l.ctx
 
+-- each is above those before it
+abbrev pub Rising : List ℕ → Type 0
+Rising [] = Unit {0}
+Rising (n ∷ ns) = All (λ m. n < m) ns × Rising ns
+
+-- the numbers of the calls' contexts
+abbrev pub numbers_of : List Life → List ℕ
+numbers_of ls = map (λ l. l.ctx.0) ls
+
+-- a call's id, and its context
+abbrev pub Name : Type 0
+Name = CallId × Id
+
+abbrev pub names_of : List Life → List Name
+names_of ls = map (λ l. (l.id, l.ctx)) ls
+
 -- the contexts of branches, of a call with its branches, and of all calls
 abbrev pub twig_ids : List Twig → List Id
 twig_ids ts = map (λ t. t.ctx) ts
@@ -193,14 +210,9 @@ pub record IsStarted {C V : Type 0} (call : Id) (branch at now : ℕ) (old new :
   pub is : new ≡ old ++ record { ctx = ctx; branch = branch; at = at } ∷ []
   pub stands : (past : List (Op C V)) → StandsFor t past → StandsFor u (Makes ctx (Deadline call at None) now ∷ past)
 
--- the context of the call, or that of a branch of it
-abbrev pub is_row : Id → Life → Bool
-is_row x l = same l.ctx x || list_any (λ t. same t.ctx x) l.twigs
-
--- the first call that has that context
-abbrev pub owner_of : Id → List Life → Option CallId
-owner_of x [] = None
-owner_of x (l ∷ ls) = if is_row x l then Some l.id else owner_of x ls
+-- the call of that context, or else the call of the context that it derives from
+abbrev pub owner_in : {C V : Type 0} → List (Op C V) → Id → List Life → Option CallId
+owner_in past x ls = option_map (λ l. l.id) (option_or (life_at x ls) (option_and_then (λ p. life_at p ls) (option_and_then parent_of (held x past))))
 
 -- the call of that context with these branches
 abbrev pub with_twigs : Id → List Twig → Life → Life
@@ -241,6 +253,7 @@ IsPlaced id place calls = (d : Life) → (slice_index_or calls place d).ctx ≡ 
 pub record BranchesGo {C V H : Type 0} (id : Id) (old new : TreeValue C V) (f : AfterFuncs H) (base : Id) (conns : List Id) (calls left : List Life) : Type 0 where
   pub sound : IsSound new f base conns left
   pub seen_is : seen new.slots base conns left ≡ bare_call id (seen old.slots base conns calls)
+  pub names_are : names_of left ≡ names_of calls
 
 -- nothing else changes, and this call is over, or none is
 pub record FindsEnded {C V H : Type 0} (found : Option CallId) (old new : TreeValue C V) (f : AfterFuncs H) (base : Id) (conns : List Id) (calls : List Life) : Type 0 where

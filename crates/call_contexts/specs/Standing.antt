@@ -129,6 +129,10 @@ module _ {C V : Type 0} where
   abbrev pub first_of : ℕ → List (Call C V) → Option CallId
   first_of number calls = option_map (λ c. c.name) (find (λ c. c.name.conn == number) calls)
 
+  -- the call stands, and is of the connection of that number
+  abbrev pub IsCallOf : ℕ → CallId → List (Call C V) → Type 0
+  IsCallOf number id calls = (id.conn ≡ number) × (is_some (call_for id calls) ≡ true)
+
   -- where the call has not ended, its deadline is not before this one; without one, it has none
   abbrev pub IsNoSooner : Option ℕ → Call C V → Type 0
   IsNoSooner first c = (at : ℕ) → c.ended ≡ None → c.deadline ≡ Some at → IsNotAfter first at

@@ -1,16 +1,20 @@
-ghost use Rattle.std.specs.Prelude.{All, ◌≡◌, ◌∷◌, [], ◌++◌, Some, true, false, is_some, IfNone, IfOk, IfErr, IfSome, OnErr, map};
+ghost use Rattle.std.specs.Prelude.{All, ◌≡◌, ◌∷◌, [], ◌++◌, List, None as Nothing, Some, true, false, is_some, IfNone, IfOk, IfErr, IfSome, OnErr, OnOk, map};
 ghost use Rattle.std.specs.List.{list_any};
 ghost use Rattle.std.specs.Option.{option_copied};
 ghost use Rattle.context_tree.specs.Context.{same};
-ghost use Rattle.call_contexts.specs.Standing.{IsNoSooner, AreNoSooner, has_deadline, has_ended, is_over, ended_branch, empty, opened, begun, expired, cancelled, all_ended, closed, gone, with_standing, with_hook, hook_for, request_for, ended_call, branched, unbranched, bare_call, AreApart, is_fresh, is_call, is_conn, ctx_for, first_of};
+ghost use Rattle.call_contexts.specs.Standing.{IsNoSooner, AreNoSooner, has_deadline, has_ended, is_over, ended_branch, empty, opened, begun, expired, cancelled, all_ended, closed, gone, with_standing, with_hook, hook_for, request_for, ended_call, branched, unbranched, bare_call, AreApart, is_fresh, is_call, is_conn, call_for, ctx_for, first_of, IsCallOf};
+ghost use Rattle.after_funcs.specs.Hooks.{Operation, AfterFunc, registered};
+ghost use Rattle.after_funcs.specs.Stands.{StandsFor as HooksStand};
+ghost use Rattle.call_contexts.specs.Index.{Sets, indexed};
 
 use crate::calls;
 use crate::contexts::{REQUEST_ID, cause_of, free, free_branches, make, release, tree_laws};
 use crate::ends::first_ended;
+use crate::index::Index;
 use crate::life::Life;
 use crate::twigs::{Twigs, if_before};
 use after_funcs::laws::order_law;
-use after_funcs::{AfterFuncs, Hook};
+use after_funcs::{AfterFuncs, AfterId, Hook};
 use context_tree::{Cause, CtxId, Tree};
 use gateway_model::CallId;
 use std::alloc::{AllocError, Global};
@@ -28,13 +32,17 @@ pub struct CallContexts<C, V, H> {
     // all end with it
     base: CtxId,
     conns: Vec<CtxId>,
+    // by beginning, and so by the numbers of their contexts
     calls: Vec<Life>,
+    // each call's context, by the call's id
+    index: Index,
 }
 
 impl<C, V, H> Model for CallContexts<C, V, H> {
     ghost use Rattle.call_contexts.specs.Standing.{WithHooks, seen, on_ctx};
     ghost use Rattle.std.specs.Prelude.{map};
-    ghost use Rattle.call_contexts.specs.Sound.{IsSound};
+    ghost use Rattle.call_contexts.specs.Sound.{IsSound, Rising, names_of, numbers_of};
+    ghost use Rattle.call_contexts.specs.Index.{IsIndexed};
 
     ghost Value = { WithHooks C V H };
 
@@ -43,7 +51,11 @@ impl<C, V, H> Model for CallContexts<C, V, H> {
       hooks = map on_ctx s.hooks.waiting.items;
     } };
 
-    ghost invariant = { λ s. IsSound s.tree s.hooks s.base s.conns.items s.calls.items };
+    ghost invariant = { λ s. record {
+      sound : IsSound s.tree s.hooks s.base s.conns.items s.calls.items;
+      rising : Rising (numbers_of s.calls.items);
+      indexed : IsIndexed s.index (names_of s.calls.items);
+    } };
 }
 
 impl<C: Copy, V: Drop, H: Drop> CallContexts<C, V, H> {
@@ -65,6 +77,7 @@ impl<C: Copy, V: Drop, H: Drop> CallContexts<C, V, H> {
             base,
             conns: Vec::new(alloc),
             calls: Vec::new(alloc),
+            index: Index::new(alloc),
         })
     }
 
@@ -82,7 +95,7 @@ impl<C: Copy, V: Drop, H: Drop> CallContexts<C, V, H> {
         Ok(conn)
     }
 
-    /// A call begins on a connection, with its context and its hook. A hook that is refused comes back.
+    /// A call of a new id begins on a connection, with its context and its hook. A hook that is refused comes back.
     pub fn begin(
         &mut self,
         id: &CallId,
@@ -92,7 +105,8 @@ impl<C: Copy, V: Drop, H: Drop> CallContexts<C, V, H> {
         request_id: Option<V>,
         hook: H,
     ) -> Result<CtxId, H>
-        requires { is_conn conn self.old.standing.conns ≡ true }
+        requires known { is_conn conn self.old.standing.conns ≡ true }
+        requires named { call_for id.now self.old.standing.calls ≡ Nothing }
         ensures stands { IfOk result (λ ctx. self.new ≡ with_hook ctx hook (begun ctx id.now conn deadline now request_id self.old.standing) self.old) }
         ensures fresh { IfOk result (λ id. is_fresh id self.old.standing ≡ true) }
         ensures back { IfErr result (λ h. h ≡ hook) }
@@ -106,7 +120,7 @@ impl<C: Copy, V: Drop, H: Drop> CallContexts<C, V, H> {
         };
         let (ctx, holder) = made;
         let twigs = Twigs::new(*self.calls.allocator());
-        match self.hooks.after_func(ctx, false, hook) {
+        match keep(&mut self.index, &mut self.hooks, id, ctx, hook) {
             Ok(hook) => {
                 self.calls.push_reserved(Life {
                     id: *id,
@@ -119,9 +133,9 @@ impl<C: Copy, V: Drop, H: Drop> CallContexts<C, V, H> {
                 });
                 Ok(ctx)
             }
-            Err(refused) => {
+            Err(hook) => {
                 release(&mut self.tree, ctx, holder);
-                Err(refused.0)
+                Err(hook)
             }
         }
     }
@@ -130,22 +144,23 @@ impl<C: Copy, V: Drop, H: Drop> CallContexts<C, V, H> {
     pub fn ctx_for(&self, id: &CallId) -> Option<CtxId>
         ensures { result ≡ ctx_for id.now self.now.standing.calls }
     {
-        let life = calls::named(&self.calls, id)?;
+        let life = calls::named(&self.calls, &self.index, id)?;
         Some(life.ctx)
     }
 
-    /// The first call of the connection of that number.
+    /// A call of the connection of that number, if one stands.
     pub fn first_call(&self, number: u64) -> Option<CallId>
-        ensures { result ≡ first_of number self.now.standing.calls }
+        ensures its { IfSome result (λ id. IsCallOf number id self.now.standing.calls) }
+        ensures none { IfNone result (first_of number self.now.standing.calls ≡ Nothing) }
     {
-        calls::first_call(&self.calls, number)
+        self.index.first(number)
     }
 
     /// The request id of a call, if it has one.
     pub fn request_id(&self, id: &CallId) -> Option<&V>
         ensures { option_copied result ≡ request_for id.now self.now.standing.calls }
     {
-        let Some(life) = calls::named(&self.calls, id) else {
+        let Some(life) = calls::named(&self.calls, &self.index, id) else {
             return None;
         };
         match self.tree.value(life.ctx, REQUEST_ID) {
@@ -181,7 +196,7 @@ impl<C: Copy, V: Drop, H: Drop> CallContexts<C, V, H> {
     pub fn ended(&self, id: &CallId) -> Option<Cause<C>>
         ensures { result ≡ ended_call id.now self.now.standing.calls }
     {
-        match calls::named(&self.calls, id) {
+        match calls::named(&self.calls, &self.index, id) {
             Some(life) => cause_of(&self.tree, life.ctx),
             None => None,
         }
@@ -193,7 +208,7 @@ impl<C: Copy, V: Drop, H: Drop> CallContexts<C, V, H> {
     pub fn ended_branch(&self, id: &CallId) -> Option<u32>
         ensures { result ≡ ended_branch id.now self.now.standing.calls }
     {
-        let life = calls::named(&self.calls, id)?;
+        let life = calls::named(&self.calls, &self.index, id)?;
         let twig = life.twigs.soonest()?;
         if cause_of(&self.tree, twig.ctx).is_some() {
             if_before(twig, life.deadline)
@@ -272,6 +287,7 @@ impl<C: Copy, V: Drop, H: Drop> CallContexts<C, V, H> {
             return None;
         };
         let holder = life.holder;
+        self.index.forget(&life.id);
         calls::remove(&mut self.calls, ctx);
         self.hooks.fire(ctx);
         let ran = self.hooks.run_next(event);
@@ -293,6 +309,7 @@ impl<C: Copy, V: Drop, H: Drop> CallContexts<C, V, H> {
         let holder = life.holder;
         let hook = life.hook;
         order_law::<H>();
+        self.index.forget(&life.id);
         calls::remove(&mut self.calls, ctx);
         self.hooks.stop(hook);
         release(&mut self.tree, ctx, holder);
@@ -314,5 +331,32 @@ impl<C: Copy, V: Drop, H: Drop> CallContexts<C, V, H> {
         ensures hooked { map (λ h. h.0) self.now.hooks ≡ map (λ c. c.id) self.now.standing.calls }
     {
         let _calls = &self.calls;
+    }
+}
+
+/// Keeps the context of a new call under its id, and its hook. A hook that is refused comes back.
+fn keep<H>(
+    index: &mut Index,
+    hooks: &mut AfterFuncs<H>,
+    id: &CallId,
+    ctx: CtxId,
+    hook: H,
+) -> Result<AfterId, H>
+    ensures hooked { (past : List (Operation H)) → HooksStand hooks.old past → OnOk result (HooksStand hooks.new (AfterFunc ctx false hook ∷ past)) }
+    ensures number { (past : List (Operation H)) → HooksStand hooks.old past → IfOk result (λ number. number ≡ registered past) }
+    ensures named { OnOk result (Sets id.now (Some ctx) index.old index.new) }
+    ensures back { (past : List (Operation H)) → HooksStand hooks.old past → IfErr result (λ h. h ≡ hook) }
+    ensures unhooked { (past : List (Operation H)) → HooksStand hooks.old past → OnErr result (HooksStand hooks.new past) }
+    ensures unnamed { OnErr result (indexed id.now index.old ≡ Nothing → Sets id.now Nothing index.old index.new) }
+{
+    if index.add(id, ctx).is_err() {
+        return Err(hook);
+    }
+    match hooks.after_func(ctx, false, hook) {
+        Ok(number) => Ok(number),
+        Err(refused) => {
+            index.forget(id);
+            Err(refused.0)
+        }
     }
 }

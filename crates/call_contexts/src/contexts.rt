@@ -6,7 +6,7 @@ ghost use Rattle.call_contexts.specs.Sound.{Op, TreeLaws, BranchesGo, IsFree, Is
 
 use crate::life::Life;
 use after_funcs::AfterFuncs;
-use context_tree::laws::{chain_law, child_law, new_law};
+use context_tree::laws::{chain_law, child_law, new_law, number_law};
 use context_tree::{Cause, CtxError, CtxId, Tree};
 use std::alloc::AllocError;
 
@@ -20,6 +20,7 @@ pub(crate) fn tree_laws<C, V>()
     new_law::<C, V>();
     chain_law::<C, V>();
     child_law::<C, V>();
+    number_law::<C, V>();
 }
 
 /// Makes the contexts of a call: one that has its request id, where there is one, and from it its own.

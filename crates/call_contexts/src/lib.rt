@@ -6,6 +6,7 @@ mod call_contexts;
 mod calls;
 mod contexts;
 mod ends;
+mod index;
 mod life;
 mod twig;
 mod twigs;

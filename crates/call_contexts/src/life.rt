@@ -1,6 +1,3 @@
-ghost use Rattle.std.specs.Prelude.{◌≡◌};
-ghost use Rattle.call_contexts.specs.Sound.{is_row};
-
 use crate::twigs::Twigs;
 use after_funcs::AfterId;
 use context_tree::CtxId;
@@ -17,13 +14,4 @@ pub(crate) struct Life {
     pub(crate) deadline: Option<u64>,
     pub(crate) hook: AfterId,
     pub(crate) twigs: Twigs,
-}
-
-impl Life {
-    /// Whether that is its context, or one of its branches'.
-    pub(crate) fn has(&self, ctx: CtxId) -> bool
-        ensures { result ≡ is_row ctx self.now }
-    {
-        self.ctx == ctx || self.twigs.has(ctx)
-    }
 }

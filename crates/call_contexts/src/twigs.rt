@@ -1,8 +1,7 @@
 //! The branches of a call.
 ghost use Rattle.std.specs.Prelude.{◌≡◌, ◌∷◌, ◌++◌, [], List, IfNone, IfOk, IfSome, None as Nothing, OnErr, Some as Just};
-ghost use Rattle.std.specs.List.{list_any};
 ghost use Rattle.std.specs.Option.{option_map_or};
-ghost use Rattle.context_tree.specs.Context.{Id, same};
+ghost use Rattle.context_tree.specs.Context.{Id};
 ghost use Rattle.call_contexts.specs.Standing.{if_before};
 ghost use Rattle.call_contexts.specs.Sound.{IsStarted, IsWithout, drop_twig, soonest_of, sooner_twig};
 
@@ -34,13 +33,6 @@ impl Twigs {
         Twigs {
             items: Vec::new(alloc),
         }
-    }
-
-    /// Whether one has that context.
-    pub(crate) fn has(&self, ctx: CtxId) -> bool
-        ensures { result ≡ list_any (λ t. same t.ctx ctx) self.now }
-    {
-        self.items.iter().any(|twig| twig.ctx == ctx)
     }
 
     /// The branch of the least deadline, and of equal ones the first.

@@ -1,3 +1,5 @@
+ghost use Rattle.std.specs.Prelude.{◌≡◌};
+
 use std::marker::Model;
 
 /// Names a context of a tree, and is never given again, also after a release.
@@ -18,4 +20,13 @@ impl Model for CtxId {
     ghost view = { λ i. (i.number, i.slot) };
 
     ghost inverse = { λ v. record { number = v.0; slot = v.1 } };
+}
+
+impl CtxId {
+    /// The context's number by creation: one that is made later has a greater one.
+    pub fn number(self) -> u64
+        ensures { result ≡ self.0 }
+    {
+        self.number
+    }
 }

@@ -253,6 +253,14 @@ impl<C: Copy, V: Drop> Tree<C, V> {
         Released::Gone
     }
 
+    /// The context that it derives from, if there is one.
+    pub fn parent(&self, id: CtxId) -> Result<Option<CtxId>, Unknown>
+        ensures { (past : List (TreeOp C V)) → StandsFor self.now past → result_ok result ≡ option_map parent_of (held id past) }
+    {
+        let node = walk::node(&self.nodes, id).ok_or(Unknown)?;
+        Ok(node.kind.parent())
+    }
+
     /// Why the context was ended, if it is ended (Go `context`, `Context.Err`).
     pub fn err(&self, id: CtxId) -> Result<Option<CtxErr>, Unknown>
         ensures { (past : List (TreeOp C V)) → StandsFor self.now past → result_ok result ≡ if_held id past (option_map (λ e. e.error) (ending id past)) }

@@ -1,10 +1,11 @@
 -- The contexts of calls, beside those of the tree.
-use Rattle.gateway_replies.proofs.Names.{◌≡◌, ℕ, ◌≤◌, ◌<◌, zero, suc, refl, sym, ap, ◌∙◌, List, [], ◌∷◌, ◌++◌, Option, Some, None, Bool, true, false, ⊎_elim, subst, length, arith, is_some, IfNone, IfSome, ◌||◌, ◌==◌, All, not, if◌then◌else◌, filter, option_map, slice_set, slice_index_or, list_any, cases_Bool, eq-eqb, or_parts, map_push, All-cons, All-filter, All-head, All-nil, All-push, All-tail, All-weaker, same_Some, Id, same, AreApart, ctx_for, first_of, is_conn, is_fresh, opened as standing_opened, begun as standing_begun, without as standing_without, CallId, ArrivedCall, is_call, Peer, peer_tie, peer_ties, AllContexts, OnPeer, life_of, CallContext, ConnContext, LivesApart, PeerValue, contexts_of, ContextsValue, IsTied, KeepsOthers, LifeValue, NoTwo, Peers, closed, contexts_value, ctx_of, first_life, has_ended, is_over, is_life, is_peer, peers_of, lives_of, others, same_id, same_context, same_number, without_calls, all_stay, nat_tests}
+use Rattle.gateway_replies.proofs.Names.{◌≡◌, ℕ, ◌≤◌, ◌<◌, zero, suc, refl, sym, ap, ◌∙◌, List, [], ◌∷◌, ◌++◌, Option, Some, None, Bool, true, false, ⊎_elim, subst, length, arith, is_some, IfNone, IfSome, ◌||◌, ◌==◌, All, not, if◌then◌else◌, filter, option_map, slice_set, slice_index_or, list_any, cases_Bool, eq-eqb, or_parts, map_push, All-cons, All-filter, All-head, All-nil, All-push, All-tail, All-weaker, same_Some, Id, same, AreApart, call_for, ctx_for, first_of, is_conn, is_fresh, opened as standing_opened, begun as standing_begun, without as standing_without, CallId, ArrivedCall, is_call, Peer, peer_tie, peer_ties, AllContexts, OnPeer, life_of, CallContext, ConnContext, LivesApart, PeerValue, contexts_of, ContextsValue, IsTied, KeepsOthers, LifeValue, NoTwo, Peers, closed, contexts_value, ctx_of, first_life, has_ended, is_over, is_life, is_peer, peers_of, lives_of, others, same_id, same_context, without_calls, all_stay, nat_tests}
 use Rattle.call_contexts.specs.Standing.{closed as standing_closed, is_call as is_standing, has_ended as standing_ended, is_over as is_standing_over}
 use Rattle.gateway_replies.specs.Contexts.{begun, opened, without}
 use Rattle.gateway_theory.specs.lemmas.LimitLemmas.{same_call}
-use Rattle.gateway_theory.specs.lemmas.StoreLemmas.{call_itself}
-use Rattle.gateway_replies.proofs.ListLemmas.{call_turned, context_turned, due_same, filter_map_both, no_two_pushed, number_turned, any_map, no_two_kept, same_itself, same_true}
+use Rattle.gateway_replies.specs.Contexts.{IsNext}
+use Rattle.gateway_replies.proofs.PlaceLemmas.{rise_apart, rising_left, rising_push}
+use Rattle.gateway_replies.proofs.ListLemmas.{call_turned, context_turned, due_same, filter_map_both, no_two_pushed, any_map, no_two_kept, same_itself, same_true}
 use Rattle.gateway_replies.proofs.PeerLemmas.{ctx_more, known_in, less_contexts, less_ctx, not_in, peer_ended, peer_in, peers_less, peers_pushed, two_apart}
 
 pub neither : {A : Type 0} (p q : A → Bool) (xs : List A) → list_any p xs ≡ false → list_any q xs ≡ false → All (λ x. p x ≡ q x) xs
@@ -91,12 +92,12 @@ module _ {V : Type 0} where
   -- ---- all of it
 
   tied_opened : (ps : Peers) (v : AllContexts V) (number : ℕ) (x : Id) → IsTied ps v → is_fresh x v ≡ true
-      → is_peer number (peers_of ps v.conns) ≡ false → IsTied (ps ++ (number, x) ∷ []) (standing_opened x v)
+      → IsNext number (peers_of ps v.conns) → IsTied (ps ++ (number, x) ∷ []) (standing_opened x v)
   tied_opened ps v number x tied fresh none = record {
     drained_is = tied.drained_is;
     conns_are = map_push (λ (c : ConnContext). c.id) v.conns (record { id = x; ended = v.drained }) ∙ ap (λ xs. xs ++ x ∷ []) tied.conns_are ∙ sym (map_push (λ (p : ℕ × Id). p.1) ps (number, x));
     calls_are = All-weaker (OnPeer ps) (OnPeer (ps ++ (number, x) ∷ [])) (λ c. ctx_more c.name.conn ps (number, x) c.conn) v.calls tied.calls_are;
-    numbers_apart = no_two_pushed same_number number_turned ps (number, x) tied.numbers_apart (sym (peer_in number ps v.conns tied.conns_are) ∙ none);
+    numbers_rise = rising_push (number, x) ps tied.numbers_rise (λ n le. sym (peer_in n ps v.conns tied.conns_are) ∙ none n le);
     contexts_apart = no_two_pushed same_context context_turned ps (number, x) tied.contexts_apart (sym (any_map (λ z. same z x) (λ (p : ℕ × Id). p.1) ps)
         ∙ ap (list_any (λ z. same z x)) (sym tied.conns_are) ∙ any_map (λ z. same z x) (λ (c : ConnContext). c.id) v.conns ∙ unknown (is_conn x v.conns) (is_standing x v.calls) fresh);
     calls_apart = tied.calls_apart;
@@ -115,9 +116,9 @@ module _ {V : Type 0} where
   tied_closed ps v number x tied is none = record {
     drained_is = tied.drained_is;
     conns_are = filter_map_both (λ z. not (same z x)) (λ (c : ConnContext). c.id) v.conns ∙ ap (filter (λ z. not (same z x))) tied.conns_are
-        ∙ less_contexts number ps x is tied.numbers_apart tied.contexts_apart;
+        ∙ less_contexts number ps x is (rise_apart ps tied.numbers_rise) tied.contexts_apart;
     calls_are = tied_without ps v.calls number tied.calls_are none;
-    numbers_apart = no_two_kept same_number (λ p. not (p.0 == number)) ps tied.numbers_apart;
+    numbers_rise = rising_left (λ p. not (p.0 == number)) ps tied.numbers_rise;
     contexts_apart = no_two_kept same_context (λ p. not (p.0 == number)) ps tied.contexts_apart;
     calls_apart = tied.calls_apart;
   }
@@ -141,10 +142,9 @@ same_others number id (l ∷ ls) its = grind (arith, same_others number id ls it
 pub without_others : (id : CallId) (x : ContextsValue) → KeepsOthers id.conn x (without id x)
 without_others id x = record { drained_is = refl; conns_are = refl; others_are = same_others id.conn id x.calls (eq-eqb id.conn id.conn refl) }
 
-pub first_gone : (number : ℕ) (id : CallId) (ls : List LifeValue) → first_life number ls ≡ Some id
-    → ((id.conn == number) ≡ true) × (length (filter (λ (l : LifeValue). not (is_call l.id id)) ls) < length ls)
-first_gone number id [] is = cc
-first_gone number id (l ∷ ls) is = grind (arith, nat_tests, first_gone number id ls, same_Some, call_itself, shorter)
+pub fewer_gone : (id : CallId) (ls : List LifeValue) → is_life id ls ≡ true → length (filter (λ (l : LifeValue). not (is_call l.id id)) ls) < length ls
+fewer_gone id [] is = cc
+fewer_gone id (l ∷ ls) is = grind (arith, nat_tests, fewer_gone id ls, shorter)
 
 -- one after another is dropped, until none is left
 pub drops_one : (number : ℕ) (id : CallId) (v w u : ContextsValue) → KeepsOthers number v w → (id.conn == number) ≡ true → u ≡ without id w → KeepsOthers number v u
@@ -171,12 +171,28 @@ module _ {V : Type 0} where
       → ctx_for id v.calls ≡ None → is_life id u.calls ≡ false
   no_life text ps v u id is none = ap (λ (x : ContextsValue). is_life id x.calls) (sym is) ∙ life_in text v.calls id ∙ no_ctx_for id v.calls none
 
+  no_call_for : (id : CallId) (cs : List (CallContext V)) → list_any (λ c. is_call c.name id) cs ≡ false → call_for id cs ≡ None
+  no_call_for id [] none = refl
+  no_call_for id (c ∷ cs) none = let two = or_parts (is_call c.name id) (list_any (λ d. is_call d.name id) cs) none in rw two.0 (no_call_for id cs two.1)
+
+  -- a call that has a context is one that stands
+  life_for : (id : CallId) (cs : List (CallContext V)) → is_some (call_for id cs) ≡ true → list_any (λ c. is_call c.name id) cs ≡ true
+  life_for id [] is = cc
+  life_for id (c ∷ cs) is = grind (arith, life_for id cs)
+
+  pub has_life : (text : V → List ℕ) (ps : Peers) (v : AllContexts V) (u : ContextsValue) (id : CallId) → contexts_of text ps v ≡ u → is_some (call_for id v.calls) ≡ true → is_life id u.calls ≡ true
+  has_life text ps v u id is some = ap (λ (x : ContextsValue). is_life id x.calls) (sym is) ∙ life_in text v.calls id ∙ life_for id v.calls some
+
+  -- a call that has no context is none that stands
+  pub not_begun : (text : V → List ℕ) (ps : Peers) (v : AllContexts V) (u : ContextsValue) (id : CallId) → contexts_of text ps v ≡ u → is_life id u.calls ≡ false → call_for id v.calls ≡ None
+  not_begun text ps v u id is none = no_call_for id v.calls (sym (life_in text v.calls id) ∙ ap (λ (x : ContextsValue). is_life id x.calls) is ∙ none)
+
   pub left_tied : (ps : Peers) (v w : AllContexts V) (x : Id) → w ≡ standing_without x v → IsTied ps v → IsTied ps w
   left_tied ps v w x w_is tied = subst (IsTied ps) (sym w_is) (record {
     drained_is = tied.drained_is;
     conns_are = tied.conns_are;
     calls_are = All-filter (λ c. not (same c.id x)) (OnPeer ps) v.calls tied.calls_are;
-    numbers_apart = tied.numbers_apart;
+    numbers_rise = tied.numbers_rise;
     contexts_apart = tied.contexts_apart;
     calls_apart = no_two_kept same_id (λ c. not (same c.id x)) v.calls tied.calls_apart;
   })
@@ -202,7 +218,7 @@ module _ {V : Type 0} where
   peer_gone_value text peers left v w u number x then_is w_is tied is u_is none =
       ap (contexts_of text (peer_ties left)) w_is
       ∙ ap (λ ps. contexts_of text ps (standing_closed x v)) (ap peer_ties then_is ∙ filter_map_both (λ t. not (t.0 == number)) peer_tie peers)
-      ∙ ap (λ cs. contexts_value (is_some v.drained) cs (lives_of text v.calls)) (peers_less number x (peer_ties peers) v.conns tied.conns_are is tied.numbers_apart tied.contexts_apart)
+      ∙ ap (λ cs. contexts_value (is_some v.drained) cs (lives_of text v.calls)) (peers_less number x (peer_ties peers) v.conns tied.conns_are is (rise_apart (peer_ties peers) tied.numbers_rise) tied.contexts_apart)
       ∙ ap (λ (y : ContextsValue). contexts_value y.drained (filter (λ p. not (p.number == number)) y.conns) y.calls) u_is
       ∙ ap (contexts_value u.drained (filter (λ p. not (p.number == number)) u.conns)) (sym (others_stay number u.calls none))
 
@@ -233,7 +249,7 @@ module _ {V : Type 0} where
         drained_is = tied.drained_is;
         conns_are = tied.conns_are;
         calls_are = All-push (OnPeer ps) v.calls _ tied.calls_are known;
-        numbers_apart = tied.numbers_apart;
+        numbers_rise = tied.numbers_rise;
         contexts_apart = tied.contexts_apart;
         calls_apart = no_two_pushed same_id call_turned v.calls _ tied.calls_apart
             (sym (life_in text v.calls id) ∙ ap (λ (y : ContextsValue). is_life id y.calls) u_is ∙ none);
@@ -245,12 +261,12 @@ module _ {V : Type 0} where
   begun_value text ps qs v w u a id x conn deadline now request_id qs_are w_is tied known u_is deadline_is id_is = grind (arith, nat_tests, map_push, peer_ended, due_same)
 
   pub opened_tied : {H : Type 0} (peers more : List (Peer H)) (v w : AllContexts V) (u : ContextsValue) (text : V → List ℕ) (p : Peer H) → more ≡ peers ++ p ∷ []
-      → w ≡ standing_opened p.ctx v → IsTied (peer_ties peers) v → is_fresh p.ctx v ≡ true → contexts_of text (peer_ties peers) v ≡ u → is_peer p.number u.conns ≡ false
+      → w ≡ standing_opened p.ctx v → IsTied (peer_ties peers) v → is_fresh p.ctx v ≡ true → contexts_of text (peer_ties peers) v ≡ u → IsNext p.number u.conns
       → IsTied (peer_ties more) w
   opened_tied peers more v w u text p more_is w_is tied fresh u_is none =
       subst (IsTied (peer_ties more)) (sym w_is)
       (subst (λ ps. IsTied ps (standing_opened p.ctx v)) (sym (ap peer_ties more_is ∙ map_push peer_tie peers p))
-      (tied_opened (peer_ties peers) v p.number p.ctx tied fresh (ap (λ (y : ContextsValue). is_peer p.number y.conns) u_is ∙ none)))
+      (tied_opened (peer_ties peers) v p.number p.ctx tied fresh (λ n le. ap (λ (y : ContextsValue). is_peer n y.conns) u_is ∙ none n le)))
 
   pub opened_value : {H : Type 0} (peers more : List (Peer H)) (v w : AllContexts V) (u : ContextsValue) (text : V → List ℕ) (p : Peer H) → more ≡ peers ++ p ∷ []
       → w ≡ standing_opened p.ctx v → IsTied (peer_ties peers) v → contexts_of text (peer_ties peers) v ≡ u → contexts_of text (peer_ties more) w ≡ opened p.number u

@@ -1,5 +1,6 @@
 -- The hooks of connections and of calls, beside their contexts.
 use Rattle.gateway_replies.proofs.Names.{◌≡◌, ℕ, ◌<◌, zero, suc, refl, sym, ap, ◌∙◌, List, [], ◌∷◌, ◌++◌, append-nil, Option, Some, None, true, false, ⊎_elim, subst, length, arith, ◌⊎◌, IfNone, IfOk, IfSome, OnErr, OnOk, Result, Ok, Err, ◌==◌, not, if◌then◌else◌, filter, slice_set, slice_index_or, list_any, cases_Bool, eqb-true, or_parts, map_push, All-head, All-tail, same_Some, Id, same, WithHooks, with_standing, ctx_for, first_of, hook_for, CallId, is_call, all_stay, Peer, names_in, AllContexts, CallContext, ContextsValue, ctx_of, BringsHooks, Called, DropsHooks, GivesBytes, HookedContexts, Hooks, KeepsHooks, LosesHook, KeepsStocks, Stocks, TakesHook, hook_of, hooked, hooks_but, hooks_of_others, stock_in, stock_of, AreHooked, Takes, hooks_of, peer_ties, stock_tie, stock_ties, nat_tests}
+use Rattle.gateway_replies.specs.Ties.{AreOthers}
 use Rattle.http_pieces.specs.Request.{most_requests}
 use Rattle.std.specs.declared.alloc.AllocError.{AllocError}
 use Rattle.gateway_model.specs.declared.ending.Ending.{Ending}
@@ -9,11 +10,6 @@ use Rattle.gateway_replies.proofs.PeerLemmas.{first_same, rest_same}
 use Rattle.gateway_replies.proofs.ContextLemmas.{Agree, no_ctx_for}
 
 -- ---- the hooks of calls
-
--- the first call of a connection is one of it
-pub first_of_it : {V : Type 0} (number : ℕ) (cs : List (CallContext V)) (id : CallId) → first_of number cs ≡ Some id → (id.conn == number) ≡ true
-first_of_it number [] id is = cc
-first_of_it number (c ∷ cs) id is = grind (arith, first_of_it number cs id)
 
 module _ {V H : Type 0} where
   -- one that is not there has no hook
@@ -77,24 +73,7 @@ module _ {H : Type 0} where
 
 -- ---- the hooks that connections have
 
--- none of the first so many is of that number
-abbrev pub AreOthers : {H : Type 0} → ℕ → ℕ → List (Peer H) → Type 0
-AreOthers number zero ps = Unit {0}
-AreOthers number (suc i) [] = Unit {0}
-AreOthers number (suc i) (p ∷ ps) = ((p.number == number) ≡ false) × AreOthers number i ps
-
 module _ {H : Type 0} where
-  -- what stands at a place does not hang on what would stand for none
-  pub same_at : (i : ℕ) (ps : List (Peer H)) (x y : Peer H) → i < length ps → slice_index_or ps i x ≡ slice_index_or ps i y
-  same_at i [] x y low = absurd (omega (arith, low))
-  same_at zero (p ∷ ps) x y low = refl
-  same_at (suc i) (p ∷ ps) x y low = same_at i ps x y (omega (arith, low))
-
-  pub one_more_other : (number i : ℕ) (ps : List (Peer H)) (x : Peer H) → AreOthers number i ps → ((slice_index_or ps i x).number == number) ≡ false → AreOthers number (suc i) ps
-  one_more_other number i [] x others none = tt
-  one_more_other number zero (p ∷ ps) x others none = (none, tt)
-  one_more_other number (suc i) (p ∷ ps) x others none = (others.0, one_more_other number i ps x others.1 none)
-
   -- the one at that place has other hooks then
   pub stock_set : (number i : ℕ) (ps : List (Peer H)) (p q : Peer H) → i < length ps → p ≡ slice_index_or ps i p → (p.number == number) ≡ true → q.number ≡ p.number → AreOthers number i ps
       → (stock_of number (stock_ties ps) ≡ p.stock.items) × (stock_of number (stock_ties (slice_set ps i q)) ≡ q.stock.items) × KeepsStocks number (stock_ties ps) (stock_ties (slice_set ps i q))

@@ -1,5 +1,5 @@
 -- Lists of which no two are alike, and what is the same in two words.
-use Rattle.gateway_replies.proofs.Names.{◌≡◌, ℕ, refl, ap, ◌∙◌, List, [], ◌∷◌, ◌++◌, Option, Some, None, Bool, true, false, ⊎_elim, map, arith, rules, ◌||◌, filter, list_any, option_or, cases_Bool, or_parts, Id, same, ends_branch, if_due, CallContext, by_deadline, NoTwo, TimedBranch, same_id, same_context, same_number, sym_eqb, nat_tests}
+use Rattle.gateway_replies.proofs.Names.{◌≡◌, ℕ, refl, ap, ◌∙◌, List, [], ◌∷◌, ◌++◌, Option, Some, None, Bool, true, false, ⊎_elim, map, arith, rules, ◌||◌, filter, list_any, option_or, cases_Bool, or_parts, Id, same, ends_branch, if_due, CallContext, by_deadline, NoTwo, TimedBranch, same_id, same_context, sym_eqb, nat_tests}
 use Rattle.std.proofs.lemmas.List.Folds.{list_any-append}
 
 any_kept : {A : Type 0} (p q : A → Bool) (xs : List A) → list_any p xs ≡ false → list_any p (filter q xs) ≡ false
@@ -37,9 +37,6 @@ same_itself x = grind (arith, rules)
 
 pub same_turned : (x y : Id) → same x y ≡ same y x
 same_turned x y = grind (arith, rules)
-
-pub number_turned : (p q : ℕ × Id) → same_number p q ≡ same_number q p
-number_turned p q = sym_eqb q.0 p.0
 
 pub context_turned : (p q : ℕ × Id) → same_context p q ≡ same_context q p
 context_turned p q = grind (arith, rules)

@@ -9,7 +9,7 @@ pub use Rattle.std.specs.Arc.{arc_value}
 pub use Rattle.std.specs.List.{list_any}
 pub use Rattle.std.specs.Option.{option_or, option_map_or, unwrap_or}
 pub use Rattle.std.specs.Prelude.{◌==◌, IfSome, filter, if◌then◌else◌, All, not, IfNone, ◌||◌, slice_set, slice_index_or, nat_le, IfOk, OnErr, OnOk, Result, Ok, Err, option_map, ◌&&◌, is_none, ◌⊎◌}
-pub use Rattle.call_contexts.specs.Standing.{WithHooks, ctx_for, first_of, if_cancelled, with_standing, AreNoSooner, IsNoSooner, has_deadline, ends_branch, if_due, ends_conn, ends_call, expires_call, on_branches, with_branches, AreApart, is_conn, is_fresh, opened, begun, without, hook_for, ended_conn, ended_call, ended_branch, expires_branch, expired, cancelled, all_ended, drop_branch}
+pub use Rattle.call_contexts.specs.Standing.{WithHooks, call_for, ctx_for, first_of, if_cancelled, with_standing, AreNoSooner, IsNoSooner, has_deadline, ends_branch, if_due, ends_conn, ends_call, expires_call, on_branches, with_branches, AreApart, is_conn, is_fresh, opened, begun, without, hook_for, ended_conn, ended_call, ended_branch, expires_branch, expired, cancelled, all_ended, drop_branch}
 pub use Rattle.context_tree.specs.Context.{same, Id}
 pub use Rattle.context_tree.specs.declared.error.Cause.TheVariants.{Given}
 pub use Rattle.gateway_model.specs.Past.{is_call, ArrivedCall, is_due, least_of}

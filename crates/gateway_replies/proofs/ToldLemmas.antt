@@ -3,6 +3,7 @@ use Rattle.gateway_replies.proofs.Names.{◌≡◌, ℕ, refl, sym, ap, ◌∙�
 use Rattle.context_tree.specs.Tree.{IsNotAfter}
 use Rattle.gateway_theory.specs.declared.trigger.Trigger.TheVariants.{Reached, HungUp, Drained}
 use Rattle.gateway_replies.proofs.ListLemmas.{due_same, same_itself}
+use Rattle.gateway_replies.proofs.PlaceLemmas.{rise_apart}
 use Rattle.gateway_replies.proofs.PeerLemmas.{lives_stay, not_in, peers_drained, peers_hung, peers_stay, two_apart}
 
 conns_told : (g : ConnContext → Ended) (cs : List ConnContext) → map (λ (c : ConnContext). c.id) (map (λ (c : ConnContext). ends_conn (g c) c) cs) ≡ map (λ (c : ConnContext). c.id) cs
@@ -71,7 +72,7 @@ module _ {V : Type 0} where
     conns_are = conns_is ∙ tied.conns_are;
     calls_are = subst (All (OnPeer ps)) (sym calls_is) (All-map (OnPeer ps) f v.calls (All-weaker (OnPeer ps) (λ c. OnPeer ps (f c))
         (λ c at. ap (λ k. ctx_of k.conn ps) (same_there c).0 ∙ at ∙ ap (λ x. Some x) (sym (same_there c).1)) v.calls tied.calls_are));
-    numbers_apart = tied.numbers_apart;
+    numbers_rise = tied.numbers_rise;
     contexts_apart = tied.contexts_apart;
     calls_apart = subst (NoTwo same_id) (sym calls_is) (ids_stay f same_there v.calls tied.calls_apart);
   }
@@ -97,7 +98,7 @@ module _ {V : Type 0} where
       → ctx_of number ps ≡ Some x → contexts_of text ps v ≡ u → contexts_of text ps w ≡ told (HungUp number) u
   hung_value text ps v w u number x w_is tied is u_is = ap (contexts_of text ps) w_is
       ∙ ap (λ cs. contexts_value (is_some v.drained) cs (lives_of text (map (λ c. ends_call (if_cancelled (same c.conn x) HangUp) c) v.calls)))
-      (peers_hung number x ps v.conns tied.conns_are is tied.numbers_apart tied.contexts_apart)
+      (peers_hung number x ps v.conns tied.conns_are is (rise_apart ps tied.numbers_rise) tied.contexts_apart)
       ∙ ap (contexts_value (is_some v.drained) (map (λ p. ends_peer (by_hang_up (p.number == number)) p) (peers_of ps v.conns)))
       (lives_told text ps v.calls (λ c. ends_call (if_cancelled (same c.conn x) HangUp) c) (λ l. ends_life (by_hang_up (l.id.conn == number)) l)
       (λ c at. ap (λ e. ends_life e (life_of text c)) (ap by_hang_up (its c.name.conn c.conn at))) tied.calls_are)

@@ -1,5 +1,5 @@
 -- The contexts of the open connections and of the calls that can be decided, by the connections' numbers and the calls' ids.
-use Rattle.std.specs.Prelude.{◌≡◌, ◌&&◌, ◌||◌, ℕ, Bool, true, false, is_some, is_none, not, if◌then◌else◌, ◌==◌, List, [], ◌∷◌, ◌++◌, map, filter, nat_le, All, Option, None, Some, option_map}
+use Rattle.std.specs.Prelude.{◌≡◌, ◌≤◌, ◌&&◌, ◌||◌, ℕ, Bool, true, false, is_some, is_none, not, if◌then◌else◌, ◌==◌, List, [], ◌∷◌, ◌++◌, map, filter, nat_le, All, Option, None, Some, option_map}
 use Rattle.std.specs.List.{list_any}
 use Rattle.std.specs.Option.{option_map_or, option_or}
 use Rattle.context_tree.specs.declared.error.Cause.{Cause}
@@ -7,6 +7,7 @@ use Rattle.context_tree.specs.declared.error.Cause.TheVariants.{Given, Plain}
 use Rattle.context_tree.specs.declared.error.CtxErr.TheVariants.{DeadlineExceeded}
 use Rattle.context_tree.specs.Context.{Id, same}
 use Rattle.call_contexts.specs.Standing.{Branch, Call, Conn, Standing, branch_before, drop_branch, ends_branch, expires_branch, if_cancelled}
+use Rattle.call_contexts.specs.Sound.{Rising}
 use Rattle.gateway_replies.specs.declared.contexts.cancelled.CancelledBy.{CancelledBy}
 use Rattle.gateway_replies.specs.declared.contexts.cancelled.CancelledBy.TheVariants.{HangUp, Drain}
 use Rattle.gateway_model.specs.declared.call_event.CallEvent.{CallEvent}
@@ -78,6 +79,10 @@ life_by ended id a = record { id = id; deadline = a.deadline; request_id = a.req
 -- the connection of that number has a context
 abbrev pub is_peer : ℕ → List PeerValue → Bool
 is_peer number conns = list_any (λ p. p.number == number) conns
+
+-- no connection has that number, or one above it
+abbrev pub IsNext : ℕ → List PeerValue → Type 0
+IsNext number conns = (n : ℕ) → number ≤ n → is_peer n conns ≡ false
 
 -- the call has a context
 abbrev pub is_life : CallId → List LifeValue → Bool
@@ -204,6 +209,10 @@ abbrev pub ctx_of : ℕ → Peers → Option Id
 ctx_of number [] = None
 ctx_of number (p ∷ ps) = if p.0 == number then Some p.1 else ctx_of number ps
 
+-- the connections' numbers
+abbrev pub numbers_of : Peers → List ℕ
+numbers_of ps = map (λ p. p.0) ps
+
 abbrev pub same_number : ℕ × Id → ℕ × Id → Bool
 same_number p q = q.0 == p.0
 
@@ -266,6 +275,6 @@ module _ {V : Type 0} where
     pub drained_is : v.drained ≡ by_drain (is_some v.drained)
     pub conns_are : map (λ c. c.id) v.conns ≡ map (λ p. p.1) peers
     pub calls_are : All (OnPeer peers) v.calls
-    pub numbers_apart : NoTwo same_number peers
+    pub numbers_rise : Rising (numbers_of peers)
     pub contexts_apart : NoTwo same_context peers
     pub calls_apart : NoTwo same_id v.calls

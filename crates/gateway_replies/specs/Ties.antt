@@ -1,5 +1,5 @@
 -- What is kept of a connection beside its context, and the hooks of calls.
-use Rattle.std.specs.Prelude.{◌≡◌, ℕ, List, [], ◌∷◌, Option, None, Some, map}
+use Rattle.std.specs.Prelude.{◌≡◌, ◌==◌, ℕ, zero, suc, Bool, false, List, [], ◌∷◌, Option, None, Some, map, slice_index_or}
 use Rattle.context_tree.specs.Context.{Id}
 use Rattle.gateway_model.specs.declared.id.CallId.{CallId}
 use Rattle.gateway_replies.specs.declared.contexts.peer.Peer.{Peer}
@@ -35,3 +35,13 @@ module _ {H : Type 0} where
   -- each call has its hook, in their order
   abbrev pub AreHooked : {V : Type 0} → List (CallContext V) → List (Id × H) → Type 0
   AreHooked cs hs = map (λ h. h.0) hs ≡ map (λ c. c.id) cs
+
+-- none of the first so many is of that number
+abbrev pub AreOthers : {H : Type 0} → ℕ → ℕ → List (Peer H) → Type 0
+AreOthers number zero ps = Unit {0}
+AreOthers number (suc i) [] = Unit {0}
+AreOthers number (suc i) (p ∷ ps) = ((p.number == number) ≡ false) × AreOthers number i ps
+
+-- the connection at that place has that number
+abbrev pub IsAt : {H : Type 0} → ℕ → ℕ → List (Peer H) → Type 0
+IsAt number place ps = (d : _) → (slice_index_or ps place d).number ≡ number

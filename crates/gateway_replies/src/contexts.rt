@@ -4,14 +4,15 @@ mod cancelled;
 mod deadline;
 mod peer;
 
-ghost use Rattle.std.specs.Prelude.{All, ◌≡◌, ◌==◌, [], IfErr, IfNone, IfOk, IfSome, None as Nothing, OnErr, OnOk, Some as Just, filter, false, not, option_map, true};
+ghost use Rattle.std.specs.Prelude.{All, ◌≡◌, ◌<◌, ◌==◌, [], IfErr, IfNone, IfOk, IfSome, None as Nothing, OnErr, OnOk, Some as Just, filter, false, length, not, option_map, true};
 ghost use Rattle.std.specs.Arc.{arc_value};
 ghost use Rattle.std.specs.List.{list_any};
-ghost use Rattle.gateway_replies.specs.Contexts.{IsNotDue, KeepsOthers, LivesApart, begun, closed, ctx_of, ending_life, event_of, finished, first_life, has_due, has_ended, is_life, is_over, is_peer, no_contexts, opened, started, told, without, without_calls};
+ghost use Rattle.gateway_replies.specs.Contexts.{IsNotDue, KeepsOthers, LivesApart, begun, closed, ctx_of, ending_life, event_of, finished, first_life, has_due, has_ended, is_life, is_over, is_peer, no_contexts, IsNext, numbers_of, opened, started, told, without, without_calls};
 ghost use Rattle.gateway_model.specs.Duty.{MeetsDuty};
 ghost use Rattle.gateway_model.specs.declared.id.CallId.{CallId as AnyCall};
 ghost use Rattle.gateway_replies.specs.Hooks.{BringsHooks, CallsHook, DropsHook, DropsHooks, KeepsHooks, KeepsStocks, MayLoseHook, TakesAtMostOne, TakesHook, hook_of, hooks_of_others, none_hooked, stock_in};
-ghost use Rattle.gateway_replies.specs.Ties.{Takes, peer_ties, stock_ties};
+ghost use Rattle.gateway_replies.specs.Ties.{AreOthers, IsAt, Takes, peer_ties, stock_ties};
+ghost use Rattle.call_contexts.specs.Sound.{Rising};
 
 use crate::arrived_call::ArrivedCall;
 use crate::contexts::cancelled::CancelledBy;
@@ -33,7 +34,7 @@ use std::sync::Arc;
 #[derive(Drop)]
 pub struct Contexts<H> {
     contexts: CallContexts<CancelledBy, Arc<Bytes>, H>,
-    /// One of each connection that is open and not broken.
+    /// One of each connection that is open and not broken, by their numbers.
     peers: Vec<Peer<H>>,
     /// The calls whose hooks were called, with what each was told.
     called: Log<CallId, Ending>,
@@ -68,9 +69,10 @@ impl<H: ReplyHook + Drop> Contexts<H> {
         })
     }
 
-    /// A connection opens, with its context and its hooks. Where memory is refused they come back.
+    /// A connection opens, with a number above those of the others, its context and its hooks. Where memory is refused
+    /// the hooks come back.
     pub fn open(&mut self, number: u64, stock: Stock<H>) -> Result<(), Stock<H>>
-        requires { is_peer number self.old.standing.conns ≡ false }
+        requires { IsNext number self.old.standing.conns }
         ensures ok { OnOk result (self.new.standing ≡ opened number self.old.standing) }
         ensures hooks { OnOk result (BringsHooks number stock self.old self.new) }
         ensures back { IfErr result (λ back. back ≡ stock) }
@@ -292,36 +294,46 @@ fn event_of(
     }
 }
 
+/// Where the connection of that number stands. They stand by their numbers.
+fn place<H>(peers: &[Peer<H>], number: u64) -> Option<usize>
+    requires { Rising (numbers_of (peer_ties peers.now)) }
+    ensures some { IfSome result (λ i. i < length peers.now) }
+    ensures its { IfSome result (λ i. IsAt number i peers.now) }
+    ensures none { IfNone result (AreOthers number (length peers.now) peers.now) }
+{
+    match peers.binary_search_by_key(&number, |peer| peer.number) {
+        Ok(place) => Some(place),
+        Err(_) => None,
+    }
+}
+
 /// The context of the connection of that number.
 fn ctx_of<H>(peers: &[Peer<H>], number: u64) -> Option<CtxId>
+    requires { Rising (numbers_of (peer_ties peers.now)) }
     ensures { result ≡ ctx_of number (peer_ties peers.now) }
 {
-    for peer in peers {
-        if peer.number == number {
-            return Some(peer.ctx);
-        }
-    }
-    None
+    let place = place(peers, number)?;
+    Some(peers[place].ctx)
 }
 
 /// The next hook of the connection of that number.
 fn take_hook<H>(peers: &mut Vec<Peer<H>>, number: u64) -> Option<H>
+    requires { Rising (numbers_of (peer_ties peers.old.items)) }
     ensures ties { peer_ties peers.new.items ≡ peer_ties peers.old.items }
     ensures taken { Takes number result (stock_ties peers.old.items) (stock_ties peers.new.items) }
 {
-    for index in 0..peers.len() {
-        if peers[index].number == number {
-            return take_first(&mut peers[index].stock);
-        }
-    }
-    None
+    let place = place(peers, number)?;
+    take_first(&mut peers[place].stock)
 }
 
 /// Leaves the connections of other numbers.
 fn remove_peer<H: Drop>(peers: &mut Vec<Peer<H>>, number: u64)
+    requires { Rising (numbers_of (peer_ties peers.old.items)) }
     ensures { peers.new.items ≡ filter (λ p. not (p.number == number)) peers.old.items }
 {
-    peers.retain(|peer| peer.number != number);
+    if let Some(place) = place(peers, number) {
+        peers.remove(place);
+    }
 }
 
 /// The request id, shared once more.

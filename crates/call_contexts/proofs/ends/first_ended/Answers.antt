@@ -1,4 +1,4 @@
-use Rattle.call_contexts.proofs.Names.{◌≡◌, ◌∙◌, ◌∷◌, None, Some, ap, refl, subst, sym, List, IfSome, list_any, HandsOut, TreeOp, StandsFor, Standing, has_ended, is_over, owner_of}
+use Rattle.call_contexts.proofs.Names.{◌≡◌, ◌∙◌, ◌∷◌, None, Some, ap, refl, subst, sym, List, IfSome, list_any, HandsOut, TreeOp, StandsFor, Standing, has_ended, is_over, owner_in}
 use Rattle.call_contexts.proofs.Ended.{found_over, handed_out, none_waits, seen_passed, sound_passed}
 use Rattle.call_contexts.proofs.ends.first_ended.Goals as goal
 
@@ -10,7 +10,7 @@ loop-ctx-preserved g c = λ base conns was.
     let before = c.loop-ctx.invariant base conns was in
     let s = before.0 in
     let x = c.in-Some.ctx in
-    let none : owner_of x c.args.calls.now ≡ None = sym c.owner.ensures ∙ c.in_default-owner.is in
+    let none : owner_in s.past x c.args.calls.now ≡ None = sym (c.owner.ensures s.past s.tree_is) ∙ c.in_default-owner.is in
     let out : c.next_done.result ≡ Some x = handed_out c.loop-ctx.tree x c.next_done.result c.next_done.new.self.done c.in-Some.ensures.next c.next_done.ensures.next c.next_done.ensures.empty in
     let st = subst (λ o. IfSome o (λ id. (past : List (TreeOp _ _)) → StandsFor c.loop-ctx.tree past → StandsFor c.next_done.new.self (HandsOut id ∷ past))) out c.next_done.ensures.handed s.past s.tree_is in (
       sound_passed base conns c.args.calls.now s x none c.next_done.new.self st,
@@ -26,7 +26,7 @@ returns-in-Some-owner g c = λ base conns was.
       sound = s;
       seen_is = before.1;
       its = ap (λ (v : Standing _ _). list_any (has_ended id) v.calls) (sym before.1)
-          ∙ found_over base conns c.args.calls.now s c.in-Some.ctx id (c.in-Some.ensures.first s.past s.tree_is).waits (sym c.owner.ensures ∙ c.in-Some-owner.is);
+          ∙ found_over base conns c.args.calls.now s c.in-Some.ctx id (c.in-Some.ensures.first s.past s.tree_is).waits (sym (c.owner.ensures s.past s.tree_is) ∙ c.in-Some-owner.is);
       none = tt;
     }
 

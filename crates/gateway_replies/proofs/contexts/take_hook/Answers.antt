@@ -1,41 +1,25 @@
-use Rattle.gateway_replies.proofs.Names.{◌≡◌, ◌∙◌, ◌+◌, ◌<◌, true, false, suc, arith, ap, List, length, refl, subst, sym, ⊎_elim, ◌==◌, slice_set, cases_Bool, eq-eqb, eqb-true, Peer, stock_of, Takes, peer_ties, stock_ties}
+use Rattle.gateway_replies.proofs.Names.{◌∙◌, ◌<◌, ap, refl, subst, length, eq-eqb}
+use Rattle.gateway_replies.specs.Ties.{AreOthers, IsAt}
+use Rattle.gateway_replies.specs.declared.contexts.peer.Peer.{Peer}
 use Rattle.gateway_replies.proofs.ContextLemmas.{ties_set}
-use Rattle.gateway_replies.proofs.HookLemmas.{AreOthers, no_stock, one_more_other, same_at, taken_at}
+use Rattle.gateway_replies.proofs.HookLemmas.{no_stock, taken_at}
+use Rattle.gateway_replies.proofs.PlaceLemmas.{others_before}
 use Rattle.gateway_replies.proofs.contexts.take_hook.Goals as goal
 
-pub returns-then-index-number-clause-ties : goal.returns-then-index-number-clause-ties
-returns-then-index-number-clause-ties g c = ties_set c.loop-index.peers.items c.loop-index.index c.index_mut.result.now _ refl c.index_mut.ensures.value ∙ ap peer_ties c.loop-index.invariant.0
+pub returns-in_err-place-clause-taken : goal.returns-in_err-place-clause-taken
+returns-in_err-place-clause-taken g c =
+    rw c.from_residual.ensures (no_stock c.args.number c.args.peers.now.items (subst (λ ps. AreOthers c.args.number (length ps) ps) c.deref.ensures.value c.in_err-place.ensures.none), refl)
 
-pub returns-then-index-number-clause-taken : goal.returns-then-index-number-clause-taken
-returns-then-index-number-clause-taken g c =
-    let low : c.loop-index.index < length c.loop-index.peers.items =
-    subst (λ (ps : List (Peer _)). c.loop-index.index < length ps) (sym c.loop-index.invariant.0) (omega (arith, c.loop-index-test.true, c.len-index-end.ensures)) in
-    let same : c.index_mut.result.now ≡ c.index.result.now =
-    c.index_mut.ensures.value ∙ same_at c.loop-index.index c.loop-index.peers.items c.index_mut.result.now c.index.result.now low ∙ sym c.index.ensures in
-    let its : (c.index_mut.result.now.number == c.args.number) ≡ true =
-    eq-eqb c.index_mut.result.now.number c.args.number (ap (λ (p : Peer _). p.number) same ∙ c.if-index-number.true) in
-    subst (λ (ps : List (Peer _)). Takes c.args.number c.take_first.result (stock_ties ps) (stock_ties (slice_set c.loop-index.peers.items c.loop-index.index
-    (record { number = c.index_mut.result.now.number; ctx = c.index_mut.result.now.ctx; stock = c.take_first.new.stock })))) c.loop-index.invariant.0
-    (taken_at c.args.number c.loop-index.index c.loop-index.peers.items c.index_mut.result.now
-    (record { number = c.index_mut.result.now.number; ctx = c.index_mut.result.now.ctx; stock = c.take_first.new.stock }) c.take_first.result low c.index_mut.ensures.value its refl c.loop-index.invariant.1
-    c.take_first.ensures.first c.take_first.ensures.none)
-
-pub loop-index-preserved : goal.loop-index-preserved
-loop-index-preserved g c =
-    let other : (c.index.result.now.number == c.args.number) ≡ false = ⊎_elim
-    (λ (y : (c.index.result.now.number == c.args.number) ≡ true). absurd (c.if-index-number.false (eqb-true c.index.result.now.number c.args.number y)))
-    (λ (n : (c.index.result.now.number == c.args.number) ≡ false). n)
-    (cases_Bool (c.index.result.now.number == c.args.number)) in (
-      c.loop-index.invariant.0,
-      subst (λ k. AreOthers c.args.number k c.loop-index.peers.items) (let e : suc c.loop-index.index ≡ c.loop-index.index + 1 = omega arith in e)
-          (one_more_other c.args.number c.loop-index.index c.loop-index.peers.items c.index.result.now c.loop-index.invariant.1 (ap (λ (p : Peer _). p.number == c.args.number) (sym c.index.ensures) ∙ other)),
-    )
+pub returns-clause-ties : goal.returns-clause-ties
+returns-clause-ties g c = ties_set c.args.peers.now.items c.in_ok-place.place c.index_mut.result.now _ refl c.index_mut.ensures.value
 
 pub returns-clause-taken : goal.returns-clause-taken
 returns-clause-taken g c =
-    let all : c.loop-index.index ≡ length c.loop-index.peers.items =
-    subst (λ (ps : List (Peer _)). c.loop-index.index ≡ length ps) (sym c.loop-index.invariant.0) (omega (arith, c.loop-index-test.false, c.loop-index.auto.index-end, c.len-index-end.ensures)) in (
-      ap (λ ps. stock_of c.args.number (stock_ties ps)) (sym c.loop-index.invariant.0)
-          ∙ no_stock c.args.number c.loop-index.peers.items (subst (λ k. AreOthers c.args.number k c.loop-index.peers.items) all c.loop-index.invariant.1),
-      ap stock_ties c.loop-index.invariant.0,
-    )
+    let ps = c.args.peers.now.items in
+    let i = c.in_ok-place.place in
+    let p : Peer _ = c.index_mut.result.now in
+    let low : i < length ps = subst (λ (qs : _). i < length qs) c.deref.ensures.value c.in_ok-place.ensures.some in
+    let at : IsAt c.args.number i ps = subst (IsAt c.args.number i) c.deref.ensures.value c.in_ok-place.ensures.its in
+    let own = eq-eqb p.number c.args.number (ap (λ (q : Peer _). q.number) c.index_mut.ensures.value ∙ at p) in
+    taken_at c.args.number i ps p (record { number = p.number; ctx = p.ctx; stock = c.take_first.new.stock }) c.take_first.result low c.index_mut.ensures.value own refl
+    (others_before c.args.number ps c.requires i p low (at p)) c.take_first.ensures.first c.take_first.ensures.none

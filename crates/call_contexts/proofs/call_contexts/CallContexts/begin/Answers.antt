@@ -1,72 +1,66 @@
-use Rattle.call_contexts.proofs.Names.{◌∙◌, ◌++◌, ◌∷◌, [], ap, refl, sym, ◌≡◌, true, is_among, registered, WithHooks, is_conn, begun, with_call, let_go}
+use Rattle.call_contexts.proofs.Names.{◌∙◌, ◌++◌, ◌∷◌, [], ap, refl, sym, ◌≡◌, true, is_among, WithHooks, call_for, is_conn, begun, with_call, let_go}
 use Rattle.call_contexts.proofs.Seeing.{conn_among}
 use Rattle.call_contexts.proofs.Making.{call_free, call_unmade}
-use Rattle.call_contexts.proofs.Beginning.{sound_begun, seen_begun, begun_unheld, is_new, sound_alike, seen_alike, given_back, handed_back}
+use Rattle.call_contexts.proofs.Beginning.{begun_rises, sound_begun, seen_begun, begun_unheld, is_new, sound_alike, seen_alike, handed_back}
+use Rattle.call_contexts.proofs.Indexing.{indexed_back, indexed_push, not_begun, not_indexed}
 use Rattle.call_contexts.proofs.Hooking.{pair_is, kept_hooks, more_hooks}
 use Rattle.call_contexts.proofs.call_contexts.CallContexts.begin.Goals as goal
 
 pub invariant_of-self-in_default : goal.invariant_of-self-in_default
 invariant_of-self-in_default g c =
-    let s = c.self.invariant in
+    let s = c.self.invariant.sound in
     let r = c.in_default.ensures.refused s.laws s.past s.tree_is in
-    rw c.reserve.ensures.items (sound_alike s.laws s r.later c.make.new.tree r.stands r.alike r.handed_is c.self.inside.hooks s.hooks_are)
+    record { sound = rw c.reserve.ensures.items (sound_alike s.laws s r.later c.make.new.tree r.stands r.alike r.handed_is c.self.inside.hooks s.hooks_are); rising = rw c.reserve.ensures.items c.self.invariant.rising; indexed = rw c.reserve.ensures.items c.self.invariant.indexed }
 
 pub returns-in_default-clause-unchanged : goal.returns-in_default-clause-unchanged
 returns-in_default-clause-unchanged g c =
-    let s = c.self.invariant in
+    let s = c.self.invariant.sound in
     let r = c.in_default.ensures.refused s.laws s.past s.tree_is in
     rw c.reserve.ensures.items
     (pair_is _ _ (seen_alike s.laws s r.later c.make.new.tree r.stands r.alike ∙ ap (λ (v : WithHooks _ _ _). v.standing) c.self.view_is) (ap (λ (v : WithHooks _ _ _). v.hooks) c.self.view_is))
 
-pub invariant_of-self-in-Ok-after_func : goal.invariant_of-self-in-Ok-after_func
-invariant_of-self-in-Ok-after_func g c =
-    let s = c.self.invariant in
-    let there : is_among c.args.conn c.self.inside.conns.items ≡ true = sym (conn_among c.self.inside.tree.slots c.self.inside.conns.items c.args.conn) ∙ ap (λ (v : WithHooks _ _ _). is_conn c.args.conn v.standing.conns) c.self.view_is ∙ c.requires in
-    rw (c.push_reserved.ensures.items, c.reserve.ensures.items)
-    (sound_begun s.laws s (record { id = c.args.id.now; ctx = c.in-Ok.made.0; holder = c.in-Ok.made.1; conn = c.args.conn; deadline = c.args.deadline; hook = c.in-Ok-after_func.hook; twigs = c.new-twigs.result }) c.new-twigs.ensures c.args.now c.args.request_id
-    c.in-Ok.ensures.held c.make.new.tree there (c.in-Ok.ensures.made s.past s.tree_is) c.args.hook c.after_func.new.self
-    (c.in-Ok-after_func.ensures.stands s.hooks s.hooks_are) (c.in-Ok-after_func.ensures.id s.hooks s.hooks_are))
+pub invariant_of-self-in-Ok-keep : goal.invariant_of-self-in-Ok-keep
+invariant_of-self-in-Ok-keep g c =
+    let s = c.self.invariant.sound in
+    let there : is_among c.args.conn c.self.inside.conns.items ≡ true = sym (conn_among c.self.inside.tree.slots c.self.inside.conns.items c.args.conn) ∙ ap (λ (v : WithHooks _ _ _). is_conn c.args.conn v.standing.conns) c.self.view_is ∙ c.requires.known in
+    let fresh = not_begun c.self.inside.tree.slots c.args.id.now c.self.inside.calls.items (ap (λ (v : WithHooks _ _ _). call_for c.args.id.now v.standing.calls) c.self.view_is ∙ c.requires.named) in
+    record { sound = rw (c.push_reserved.ensures.items, c.reserve.ensures.items) (sound_begun s.laws s (record { id = c.args.id.now; ctx = c.in-Ok.made.0; holder = c.in-Ok.made.1; conn = c.args.conn; deadline = c.args.deadline; hook = c.in-Ok-keep.hook; twigs = c.new-twigs.result }) c.new-twigs.ensures c.args.now c.args.request_id c.in-Ok.ensures.held c.make.new.tree there (c.in-Ok.ensures.made s.past s.tree_is) c.args.hook c.keep.new.hooks (c.in-Ok-keep.ensures.hooked s.hooks s.hooks_are) (c.in-Ok-keep.ensures.number s.hooks s.hooks_are)); rising = rw (c.push_reserved.ensures.items, c.reserve.ensures.items) (begun_rises s.laws s (record { id = c.args.id.now; ctx = c.in-Ok.made.0; holder = c.in-Ok.made.1; conn = c.args.conn; deadline = c.args.deadline; hook = c.in-Ok-keep.hook; twigs = c.new-twigs.result }) c.new-twigs.ensures c.args.now c.args.request_id c.in-Ok.ensures.held c.make.new.tree there (c.in-Ok.ensures.made s.past s.tree_is) c.self.invariant.rising); indexed = rw (c.push_reserved.ensures.items, c.reserve.ensures.items) (indexed_push (record { id = c.args.id.now; ctx = c.in-Ok.made.0; holder = c.in-Ok.made.1; conn = c.args.conn; deadline = c.args.deadline; hook = c.in-Ok-keep.hook; twigs = c.new-twigs.result }) c.self.inside.calls.items c.self.invariant.indexed fresh c.in-Ok-keep.ensures.named) }
 
-pub invariant_of-self-in-Err-after_func : goal.invariant_of-self-in-Err-after_func
-invariant_of-self-in-Err-after_func g c =
-    let s = c.self.invariant in
+pub invariant_of-self-in-Err-keep : goal.invariant_of-self-in-Err-keep
+invariant_of-self-in-Err-keep g c =
+    let s = c.self.invariant.sound in
     let laws = s.laws in
     let made = c.in-Ok.ensures.made s.past s.tree_is in
     let free = call_free laws c.in-Ok.made.0 c.args.conn c.args.deadline c.args.now s.past c.in-Ok.made.1 c.args.request_id c.in-Ok.ensures.held made.contexts.lawful in
-    rw c.reserve.ensures.items
-    (sound_alike laws s (let_go c.in-Ok.made.0 c.in-Ok.made.1 (with_call c.in-Ok.made.0 c.in-Ok.made.1 c.args.conn c.args.deadline c.args.now c.args.request_id s.past)) c.release.new.tree (c.release.ensures _ made free)
-    (call_unmade laws c.in-Ok.made.0 c.args.conn c.args.deadline c.args.now s.past c.in-Ok.made.1 c.args.request_id c.in-Ok.ensures.held made.contexts.lawful)
-    (handed_back c.in-Ok.made.0 c.args.conn c.args.deadline c.args.now s.past c.in-Ok.made.1 c.args.request_id)
-    c.after_func.new.self (c.in-Err.ensures.unchanged s.hooks s.hooks_are))
+    let fresh = not_begun c.self.inside.tree.slots c.args.id.now c.self.inside.calls.items (ap (λ (v : WithHooks _ _ _). call_for c.args.id.now v.standing.calls) c.self.view_is ∙ c.requires.named) in
+    record { sound = rw c.reserve.ensures.items (sound_alike laws s (let_go c.in-Ok.made.0 c.in-Ok.made.1 (with_call c.in-Ok.made.0 c.in-Ok.made.1 c.args.conn c.args.deadline c.args.now c.args.request_id s.past)) c.release.new.tree (c.release.ensures _ made free) (call_unmade laws c.in-Ok.made.0 c.args.conn c.args.deadline c.args.now s.past c.in-Ok.made.1 c.args.request_id c.in-Ok.ensures.held made.contexts.lawful) (handed_back c.in-Ok.made.0 c.args.conn c.args.deadline c.args.now s.past c.in-Ok.made.1 c.args.request_id) c.keep.new.hooks (c.in-Err.ensures.unhooked s.hooks s.hooks_are)); rising = rw c.reserve.ensures.items c.self.invariant.rising; indexed = rw c.reserve.ensures.items (indexed_back c.args.id.now c.self.inside.calls.items c.self.invariant.indexed fresh (c.in-Err.ensures.unnamed (not_indexed c.args.id.now c.self.inside.calls.items c.self.invariant.indexed fresh))) }
 
-pub returns-in-Ok-after_func-clause-stands : goal.returns-in-Ok-after_func-clause-stands
-returns-in-Ok-after_func-clause-stands g c =
-    let s = c.self.invariant in
-    let there : is_among c.args.conn c.self.inside.conns.items ≡ true = sym (conn_among c.self.inside.tree.slots c.self.inside.conns.items c.args.conn) ∙ ap (λ (v : WithHooks _ _ _). is_conn c.args.conn v.standing.conns) c.self.view_is ∙ c.requires in
+pub returns-in-Ok-keep-clause-stands : goal.returns-in-Ok-keep-clause-stands
+returns-in-Ok-keep-clause-stands g c =
+    let s = c.self.invariant.sound in
+    let there : is_among c.args.conn c.self.inside.conns.items ≡ true = sym (conn_among c.self.inside.tree.slots c.self.inside.conns.items c.args.conn) ∙ ap (λ (v : WithHooks _ _ _). is_conn c.args.conn v.standing.conns) c.self.view_is ∙ c.requires.known in
     rw (c.push_reserved.ensures.items, c.reserve.ensures.items)
     (pair_is _ _
-    (seen_begun s.laws s (record { id = c.args.id.now; ctx = c.in-Ok.made.0; holder = c.in-Ok.made.1; conn = c.args.conn; deadline = c.args.deadline; hook = c.in-Ok-after_func.hook; twigs = c.new-twigs.result }) c.new-twigs.ensures c.args.now c.args.request_id
+    (seen_begun s.laws s (record { id = c.args.id.now; ctx = c.in-Ok.made.0; holder = c.in-Ok.made.1; conn = c.args.conn; deadline = c.args.deadline; hook = c.in-Ok-keep.hook; twigs = c.new-twigs.result }) c.new-twigs.ensures c.args.now c.args.request_id
     c.in-Ok.ensures.held c.make.new.tree there (c.in-Ok.ensures.made s.past s.tree_is)
     ∙ ap (λ (v : WithHooks _ _ _). begun c.in-Ok.made.0 c.args.id.now c.args.conn c.args.deadline c.args.now c.args.request_id v.standing) c.self.view_is)
-    (more_hooks c.self.inside.hooks c.after_func.new.self s.hooks s.hooks_are c.in-Ok.made.0 c.args.hook (c.in-Ok-after_func.ensures.stands s.hooks s.hooks_are)
+    (more_hooks c.self.inside.hooks c.keep.new.hooks s.hooks s.hooks_are c.in-Ok.made.0 c.args.hook (c.in-Ok-keep.ensures.hooked s.hooks s.hooks_are)
     ∙ ap (λ (v : WithHooks _ _ _). v.hooks ++ (c.in-Ok.made.0, c.args.hook) ∷ []) c.self.view_is))
 
-pub returns-in-Ok-after_func-clause-fresh : goal.returns-in-Ok-after_func-clause-fresh
-returns-in-Ok-after_func-clause-fresh g c =
-    let s = c.self.invariant in
-    let there : is_among c.args.conn c.self.inside.conns.items ≡ true = sym (conn_among c.self.inside.tree.slots c.self.inside.conns.items c.args.conn) ∙ ap (λ (v : WithHooks _ _ _). is_conn c.args.conn v.standing.conns) c.self.view_is ∙ c.requires in
+pub returns-in-Ok-keep-clause-fresh : goal.returns-in-Ok-keep-clause-fresh
+returns-in-Ok-keep-clause-fresh g c =
+    let s = c.self.invariant.sound in
+    let there : is_among c.args.conn c.self.inside.conns.items ≡ true = sym (conn_among c.self.inside.tree.slots c.self.inside.conns.items c.args.conn) ∙ ap (λ (v : WithHooks _ _ _). is_conn c.args.conn v.standing.conns) c.self.view_is ∙ c.requires.known in
     rw (← c.self.view_is)
-    (is_new s c.in-Ok.made.0 (begun_unheld s.laws s (record { id = c.args.id.now; ctx = c.in-Ok.made.0; holder = c.in-Ok.made.1; conn = c.args.conn; deadline = c.args.deadline; hook = c.in-Ok-after_func.hook; twigs = c.new-twigs.result }) c.new-twigs.ensures c.args.now c.args.request_id
+    (is_new s c.in-Ok.made.0 (begun_unheld s.laws s (record { id = c.args.id.now; ctx = c.in-Ok.made.0; holder = c.in-Ok.made.1; conn = c.args.conn; deadline = c.args.deadline; hook = c.in-Ok-keep.hook; twigs = c.new-twigs.result }) c.new-twigs.ensures c.args.now c.args.request_id
     c.in-Ok.ensures.held c.make.new.tree there (c.in-Ok.ensures.made s.past s.tree_is)))
 
 pub returns-in-Err-clause-back : goal.returns-in-Err-clause-back
-returns-in-Err-clause-back g c =
-    let s = c.self.invariant in
-    given_back (registered s.hooks) c.args.hook c.in-Err.refused c.after_func.result c.in-Err.is (c.after_func.ensures.exhausted s.hooks s.hooks_are) (c.after_func.ensures.memory s.hooks s.hooks_are)
+returns-in-Err-clause-back g c = let s = c.self.invariant.sound in c.in-Err.ensures.back s.hooks s.hooks_are
 
 pub returns-in-Err-clause-unchanged : goal.returns-in-Err-clause-unchanged
 returns-in-Err-clause-unchanged g c =
-    let s = c.self.invariant in
+    let s = c.self.invariant.sound in
     let laws = s.laws in
     let made = c.in-Ok.ensures.made s.past s.tree_is in
     let free = call_free laws c.in-Ok.made.0 c.args.conn c.args.deadline c.args.now s.past c.in-Ok.made.1 c.args.request_id c.in-Ok.ensures.held made.contexts.lawful in
@@ -75,7 +69,7 @@ returns-in-Err-clause-unchanged g c =
     (seen_alike laws s (let_go c.in-Ok.made.0 c.in-Ok.made.1 (with_call c.in-Ok.made.0 c.in-Ok.made.1 c.args.conn c.args.deadline c.args.now c.args.request_id s.past)) c.release.new.tree (c.release.ensures _ made free)
     (call_unmade laws c.in-Ok.made.0 c.args.conn c.args.deadline c.args.now s.past c.in-Ok.made.1 c.args.request_id c.in-Ok.ensures.held made.contexts.lawful)
     ∙ ap (λ (v : WithHooks _ _ _). v.standing) c.self.view_is)
-    (kept_hooks c.self.inside.hooks c.after_func.new.self s.hooks s.hooks_are (c.in-Err.ensures.unchanged s.hooks s.hooks_are) ∙ ap (λ (v : WithHooks _ _ _). v.hooks) c.self.view_is))
+    (kept_hooks c.self.inside.hooks c.keep.new.hooks s.hooks s.hooks_are (c.in-Err.ensures.unhooked s.hooks s.hooks_are) ∙ ap (λ (v : WithHooks _ _ _). v.hooks) c.self.view_is))
 
 pub invariant_of-self : goal.invariant_of-self
 invariant_of-self g c = rw c.reserve.ensures.items c.self.invariant
@@ -92,11 +86,11 @@ returns-in_default-clause-fresh g c = tt
 pub returns-in_default-clause-back : goal.returns-in_default-clause-back
 returns-in_default-clause-back g c = refl
 
-pub returns-in-Ok-after_func-clause-back : goal.returns-in-Ok-after_func-clause-back
-returns-in-Ok-after_func-clause-back g c = tt
+pub returns-in-Ok-keep-clause-back : goal.returns-in-Ok-keep-clause-back
+returns-in-Ok-keep-clause-back g c = tt
 
-pub returns-in-Ok-after_func-clause-unchanged : goal.returns-in-Ok-after_func-clause-unchanged
-returns-in-Ok-after_func-clause-unchanged g c = tt
+pub returns-in-Ok-keep-clause-unchanged : goal.returns-in-Ok-keep-clause-unchanged
+returns-in-Ok-keep-clause-unchanged g c = tt
 
 pub returns-in-Err-clause-stands : goal.returns-in-Err-clause-stands
 returns-in-Err-clause-stands g c = tt

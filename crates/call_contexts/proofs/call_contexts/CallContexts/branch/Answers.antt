@@ -1,6 +1,8 @@
 use Rattle.call_contexts.proofs.Names.{◌≡◌, ◌∙◌, ◌<◌, ap, sym, subst, length, true, false, None, list_any, same, WithHooks, branched, is_call, seen_call, IsPlaced, life_at}
 use Rattle.call_contexts.proofs.Branching.{same_set, seen_started, sound_started}
 use Rattle.call_contexts.proofs.Hooking.{pair_is}
+use Rattle.call_contexts.proofs.Indexing.{indexed_set}
+use Rattle.call_contexts.proofs.Order.{rising_set}
 use Rattle.call_contexts.proofs.Lists.{any_map, by_answer, if_ok, none_found, on_err}
 use Rattle.call_contexts.proofs.call_contexts.CallContexts.branch.Goals as goal
 
@@ -17,9 +19,7 @@ invariant_of-self g c =
     let s = c.self.inside in
     let lt : c.in-Some.place < length s.calls.items = subst (λ ls. c.in-Some.place < length ls) c.deref.ensures.value c.in-Some.ensures.some in
     let placed : IsPlaced c.args.call c.in-Some.place s.calls.items = subst (IsPlaced c.args.call c.in-Some.place) c.deref.ensures.value c.in-Some.ensures.its in
-    by_answer c.start.result c.start.ensures.made c.start.ensures.same_twigs c.start.ensures.same_tree
-    (λ m. sound_started c.self.invariant c.args.call c.in-Some.place c.index_mut.result.now c.start.new.self lt placed c.index_mut.ensures.value c.start.new.tree c.args.branch c.args.at c.args.now m)
-    (λ twigs tree. rw (tree, same_set c.self.invariant c.args.call c.in-Some.place c.index_mut.result.now c.start.new.self lt placed c.index_mut.ensures.value s.tree twigs) c.self.invariant)
+    record { sound = by_answer c.start.result c.start.ensures.made c.start.ensures.same_twigs c.start.ensures.same_tree (λ m. sound_started c.self.invariant.sound c.args.call c.in-Some.place c.index_mut.result.now c.start.new.self lt placed c.index_mut.ensures.value c.start.new.tree c.args.branch c.args.at c.args.now m) (λ twigs tree. rw (tree, same_set c.self.invariant.sound c.args.call c.in-Some.place c.index_mut.result.now c.start.new.self lt placed c.index_mut.ensures.value s.tree twigs) c.self.invariant.sound); rising = rising_set c.in-Some.place c.index_mut.result.now c.start.new.self s.calls.items c.index_mut.ensures.value c.self.invariant.rising; indexed = indexed_set c.in-Some.place c.index_mut.result.now c.start.new.self s.calls.items c.index_mut.ensures.value c.self.invariant.indexed }
 
 pub returns-clause-stands : goal.returns-clause-stands
 returns-clause-stands g c =
@@ -27,7 +27,7 @@ returns-clause-stands g c =
     let lt : c.in-Some.place < length s.calls.items = subst (λ ls. c.in-Some.place < length ls) c.deref.ensures.value c.in-Some.ensures.some in
     let placed : IsPlaced c.args.call c.in-Some.place s.calls.items = subst (IsPlaced c.args.call c.in-Some.place) c.deref.ensures.value c.in-Some.ensures.its in
     if_ok c.start.result c.start.ensures.made (λ m. pair_is _ _
-    (seen_started c.self.invariant c.args.call c.in-Some.place c.index_mut.result.now c.start.new.self lt placed c.index_mut.ensures.value c.start.new.tree c.args.branch c.args.at c.args.now m
+    (seen_started c.self.invariant.sound c.args.call c.in-Some.place c.index_mut.result.now c.start.new.self lt placed c.index_mut.ensures.value c.start.new.tree c.args.branch c.args.at c.args.now m
     ∙ ap (λ (v : WithHooks _ _ _). branched c.args.call c.args.branch c.args.at c.args.now v.standing) c.self.view_is) (ap (λ (v : WithHooks _ _ _). v.hooks) c.self.view_is))
 
 pub returns-clause-unchanged : goal.returns-clause-unchanged
@@ -37,5 +37,5 @@ returns-clause-unchanged g c =
     let placed : IsPlaced c.args.call c.in-Some.place s.calls.items = subst (IsPlaced c.args.call c.in-Some.place) c.deref.ensures.value c.in-Some.ensures.its in
     on_err c.start.result c.start.ensures.same_twigs c.start.ensures.same_tree (λ twigs tree. rw (
       tree,
-      same_set c.self.invariant c.args.call c.in-Some.place c.index_mut.result.now c.start.new.self lt placed c.index_mut.ensures.value s.tree twigs,
+      same_set c.self.invariant.sound c.args.call c.in-Some.place c.index_mut.result.now c.start.new.self lt placed c.index_mut.ensures.value s.tree twigs,
     ) c.self.view_is)

@@ -5,7 +5,7 @@ use Rattle.call_contexts.proofs.call_contexts.CallContexts.ended.Goals as goal
 
 pub returns-in-Some : goal.returns-in-Some
 returns-in-Some g c =
-    let s = c.self.invariant in
+    let s = c.self.invariant.sound in
     let at : life_for c.args.id.now c.self.inside.calls.items ≡ Some c.in-Some.life.now = ap (life_for c.args.id.now) (sym c.deref.ensures.value) ∙ sym c.named.ensures ∙ ap (option_map (λ l. l.now)) c.in-Some.is in
     c.cause_of.ensures s.past s.tree_is (call_known s c.args.id.now c.in-Some.life.now at)
     ∙ ended_told s c.args.id.now c.in-Some.life.now at

@@ -23,7 +23,7 @@ returns-in_err-twig g c =
 
 pub returns-then-is_some : goal.returns-then-is_some
 returns-then-is_some g c =
-    let s = c.self.invariant in
+    let s = c.self.invariant.sound in
     let slots = c.self.inside.tree.slots in
     let l = c.in_ok-life.life.now in
     let t = c.in_ok-twig.twig in
@@ -38,7 +38,7 @@ returns-then-is_some g c =
 
 pub returns-else-is_some : goal.returns-else-is_some
 returns-else-is_some g c =
-    let s = c.self.invariant in
+    let s = c.self.invariant.sound in
     let slots = c.self.inside.tree.slots in
     let l = c.in_ok-life.life.now in
     let t = c.in_ok-twig.twig in

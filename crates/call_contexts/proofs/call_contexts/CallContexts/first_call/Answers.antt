@@ -1,9 +1,13 @@
-use Rattle.call_contexts.proofs.Names.{◌∙◌, ap, sym, ◌==◌, option_map, find, WithHooks, first_of}
-use Rattle.call_contexts.proofs.Seeing.{first_kept}
+use Rattle.call_contexts.proofs.Names.{ap, sym, ◌∙◌, first_of, IfSome_then, WithHooks, call_for, is_some}
+use Rattle.call_contexts.proofs.Indexing.{call_indexed, none_of_conn, none_then}
 use Rattle.call_contexts.proofs.call_contexts.CallContexts.first_call.Goals as goal
 
-pub returns : goal.returns
-returns g c =
-    c.first_call.ensures ∙ ap (λ ls. option_map (λ l. l.id) (find (λ l. l.id.conn == c.args.number) ls)) c.deref.ensures.value
-    ∙ sym (first_kept c.self.inside.tree.slots c.args.number c.self.inside.calls.items)
-    ∙ ap (λ (v : WithHooks _ _ _). first_of c.args.number v.standing.calls) c.self.view_is
+pub returns-clause-its : goal.returns-clause-its
+returns-clause-its g c =
+    let s = c.self.inside in
+    IfSome_then c.first.result c.first.ensures.its (λ id is. (is.0, ap (λ (v : WithHooks _ _ _). is_some (call_for id v.standing.calls)) (sym c.self.view_is) ∙ call_indexed id s.calls.items c.self.invariant.indexed s.tree.slots is.1))
+
+pub returns-clause-none : goal.returns-clause-none
+returns-clause-none g c =
+    let s = c.self.inside in
+    none_then c.first.result c.first.ensures.none (λ none. ap (λ (v : WithHooks _ _ _). first_of c.args.number v.standing.calls) (sym c.self.view_is) ∙ none_of_conn s.tree.slots c.args.number s.calls.items c.self.invariant.indexed none)

@@ -2,6 +2,8 @@ use Rattle.call_contexts.proofs.Names.{◌≡◌, ◌∙◌, ◌<◌, ap, sym, s
 use Rattle.call_contexts.proofs.Branches.{none_seen}
 use Rattle.call_contexts.proofs.Branching.{dropped_seen, same_set, seen_same, seen_taken, sound_taken}
 use Rattle.call_contexts.proofs.Hooking.{pair_is}
+use Rattle.call_contexts.proofs.Indexing.{indexed_set}
+use Rattle.call_contexts.proofs.Order.{rising_set}
 use Rattle.call_contexts.proofs.Lists.{none_found}
 use Rattle.call_contexts.proofs.call_contexts.CallContexts.let_branch_go.Goals as goal
 
@@ -18,7 +20,7 @@ invariant_of-self g c =
     let s = c.self.inside in
     let lt : c.in-Some.place < length s.calls.items = subst (λ ls. c.in-Some.place < length ls) c.deref.ensures.value c.in-Some.ensures.some in
     let placed : IsPlaced c.args.call c.in-Some.place s.calls.items = subst (IsPlaced c.args.call c.in-Some.place) c.deref.ensures.value c.in-Some.ensures.its in
-    sound_taken c.self.invariant c.args.call c.in-Some.place c.index_mut.result.now c.take.new.self lt placed c.index_mut.ensures.value c.free.new.tree c.in-Some-take.twig c.in-Some-take.ensures.taken c.free.ensures
+    record { sound = sound_taken c.self.invariant.sound c.args.call c.in-Some.place c.index_mut.result.now c.take.new.self lt placed c.index_mut.ensures.value c.free.new.tree c.in-Some-take.twig c.in-Some-take.ensures.taken c.free.ensures; rising = rising_set c.in-Some.place c.index_mut.result.now c.take.new.self s.calls.items c.index_mut.ensures.value c.self.invariant.rising; indexed = indexed_set c.in-Some.place c.index_mut.result.now c.take.new.self s.calls.items c.index_mut.ensures.value c.self.invariant.indexed }
 
 pub returns-in-Some-take : goal.returns-in-Some-take
 returns-in-Some-take g c =
@@ -26,7 +28,7 @@ returns-in-Some-take g c =
     let lt : c.in-Some.place < length s.calls.items = subst (λ ls. c.in-Some.place < length ls) c.deref.ensures.value c.in-Some.ensures.some in
     let placed : IsPlaced c.args.call c.in-Some.place s.calls.items = subst (IsPlaced c.args.call c.in-Some.place) c.deref.ensures.value c.in-Some.ensures.its in
     pair_is _ _
-    (seen_taken c.self.invariant c.args.call c.in-Some.place c.index_mut.result.now c.take.new.self lt placed c.index_mut.ensures.value c.free.new.tree c.in-Some-take.twig c.in-Some-take.ensures.taken c.free.ensures
+    (seen_taken c.self.invariant.sound c.args.call c.in-Some.place c.index_mut.result.now c.take.new.self lt placed c.index_mut.ensures.value c.free.new.tree c.in-Some-take.twig c.in-Some-take.ensures.taken c.free.ensures
     (λ d. drop_branch c.args.branch d.branches) (dropped_seen s.tree.slots c.args.branch c.index_mut.result.now.twigs ∙ ap (seen_branches s.tree.slots) (sym c.take.ensures.first))
     ∙ ap (λ (v : WithHooks _ _ _). unbranched c.args.call c.args.branch v.standing) c.self.view_is)
     (ap (λ (v : WithHooks _ _ _). v.hooks) c.self.view_is)
@@ -38,8 +40,15 @@ returns-in_default-take g c =
     let placed : IsPlaced c.args.call c.in-Some.place s.calls.items = subst (IsPlaced c.args.call c.in-Some.place) c.deref.ensures.value c.in-Some.ensures.its in
     pair_is _ _
     (ap (seen s.tree.slots s.base s.conns.items)
-    (same_set c.self.invariant c.args.call c.in-Some.place c.index_mut.result.now c.take.new.self lt placed c.index_mut.ensures.value s.tree c.in_default-take.ensures.none)
-    ∙ seen_same c.self.invariant c.args.call c.in-Some.place c.index_mut.result.now c.take.new.self lt placed c.index_mut.ensures.value s.tree (λ d. drop_branch c.args.branch d.branches)
+    (same_set c.self.invariant.sound c.args.call c.in-Some.place c.index_mut.result.now c.take.new.self lt placed c.index_mut.ensures.value s.tree c.in_default-take.ensures.none)
+    ∙ seen_same c.self.invariant.sound c.args.call c.in-Some.place c.index_mut.result.now c.take.new.self lt placed c.index_mut.ensures.value s.tree (λ d. drop_branch c.args.branch d.branches)
     (dropped_seen s.tree.slots c.args.branch c.index_mut.result.now.twigs ∙ ap (seen_branches s.tree.slots) (sym c.take.ensures.first ∙ c.in_default-take.ensures.none))
     ∙ ap (λ (v : WithHooks _ _ _). unbranched c.args.call c.args.branch v.standing) c.self.view_is)
     (ap (λ (v : WithHooks _ _ _). v.hooks) c.self.view_is)
+
+pub invariant_of-self-in_default-take : goal.invariant_of-self-in_default-take
+invariant_of-self-in_default-take g c =
+    let s = c.self.inside in
+    let lt : c.in-Some.place < length s.calls.items = subst (λ ls. c.in-Some.place < length ls) c.deref.ensures.value c.in-Some.ensures.some in
+    let placed : IsPlaced c.args.call c.in-Some.place s.calls.items = subst (IsPlaced c.args.call c.in-Some.place) c.deref.ensures.value c.in-Some.ensures.its in
+    rw (same_set c.self.invariant.sound c.args.call c.in-Some.place c.index_mut.result.now c.take.new.self lt placed c.index_mut.ensures.value s.tree c.in_default-take.ensures.none) c.self.invariant

@@ -5,16 +5,16 @@ use Rattle.call_contexts.proofs.call_contexts.CallContexts.open.Goals as goal
 
 pub invariant_of-self-2 : goal.invariant_of-self-2
 invariant_of-self-2 g c =
-    let s = c.self.invariant in
-    rw (c.push_reserved.ensures.items, c.reserve.ensures.items) (sound_opened s.laws s c.in-Ok.conn c.with_cancel.new.self (c.in-Ok.ensures.made s.past s.tree_is).1)
+    let s = c.self.invariant.sound in
+    record { sound = rw (c.push_reserved.ensures.items, c.reserve.ensures.items) (sound_opened s.laws s c.in-Ok.conn c.with_cancel.new.self (c.in-Ok.ensures.made s.past s.tree_is).1); rising = c.self.invariant.rising; indexed = c.self.invariant.indexed }
 
 pub returns-clause-stands : goal.returns-clause-stands
 returns-clause-stands g c =
-    let s = c.self.invariant in
+    let s = c.self.invariant.sound in
     rw (c.push_reserved.ensures.items, c.reserve.ensures.items)
     (pair_is _ _ (seen_opened s.laws s c.in-Ok.conn c.with_cancel.new.self (c.in-Ok.ensures.made s.past s.tree_is).1 ∙ ap (λ (v : WithHooks _ _ _). opened c.in-Ok.conn v.standing) c.self.view_is) (ap (λ (v : WithHooks _ _ _). v.hooks) c.self.view_is))
 
 pub returns-clause-fresh : goal.returns-clause-fresh
 returns-clause-fresh g c =
-    let s = c.self.invariant in
+    let s = c.self.invariant.sound in
     rw (← c.self.view_is) (is_new s c.in-Ok.conn (open_unheld s.laws s c.in-Ok.conn c.with_cancel.new.self (c.in-Ok.ensures.made s.past s.tree_is).1))

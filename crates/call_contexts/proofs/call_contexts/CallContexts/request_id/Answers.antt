@@ -11,14 +11,14 @@ returns-in_default g c =
 
 pub unreachable-requires : goal.unreachable-requires
 unreachable-requires g c =
-    let s = c.self.invariant in
+    let s = c.self.invariant.sound in
     let x = c.in-Some.life.now.ctx in
     let at : life_for c.args.id.now c.self.inside.calls.items ≡ Some c.in-Some.life.now = ap (life_for c.args.id.now) (sym c.deref.ensures.value) ∙ sym c.named.ensures ∙ ap (option_map (λ l. l.now)) c.in-Some.is in
     none_is_some (c.in-Err.ensures s.past s.tree_is ∙ asked_held (held x s.past) (nearest 0 (line x s.past)) (call_known s c.args.id.now c.in-Some.life.now at))
 
 pub returns : goal.returns
 returns g c =
-    let s = c.self.invariant in
+    let s = c.self.invariant.sound in
     let x = c.in-Some.life.now.ctx in
     let at : life_for c.args.id.now c.self.inside.calls.items ≡ Some c.in-Some.life.now = ap (life_for c.args.id.now) (sym c.deref.ensures.value) ∙ sym c.named.ensures ∙ ap (option_map (λ l. l.now)) c.in-Some.is in
     same_Some (option_copied c.in-Ok.request_id) (nearest 0 (line x s.past))

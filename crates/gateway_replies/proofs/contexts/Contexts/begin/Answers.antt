@@ -1,5 +1,5 @@
 use Rattle.gateway_replies.proofs.Names.{◌≡◌, ◌∙◌, ◌∷◌, Some, None, true, false, ap, subst, sym, map_push, arc_value, WithHooks, ArrivedCall, names_in, CallContext, ContextsValue, ctx_of, HookedContexts, stock_in, stock_of, Takes, peer_ties, stock_ties}
-use Rattle.gateway_replies.proofs.ContextLemmas.{begun_tied, begun_value, known_conn, not_known}
+use Rattle.gateway_replies.proofs.ContextLemmas.{begun_tied, begun_value, known_conn, not_begun, not_known}
 use Rattle.gateway_replies.proofs.HookLemmas.{has_stock, takes_most, takes_one}
 use Rattle.gateway_replies.proofs.contexts.Contexts.begin.Goals as goal
 
@@ -15,7 +15,10 @@ pub begin-requires : goal.begin-requires
 begin-requires g c =
     let at : ctx_of c.args.id.now.conn (peer_ties c.self.inside.peers.items) ≡ Some c.in-Some.conn =
     ap (λ ps. ctx_of c.args.id.now.conn (peer_ties ps)) (sym c.deref.ensures.value) ∙ ap (λ n. ctx_of n (peer_ties c.deref.result.now)) (sym c.number.ensures) ∙ sym c.ctx_of.ensures ∙ c.in-Some.is in
-    known_conn (peer_ties c.self.inside.peers.items) c.self.inside.contexts.standing c.args.id.now.conn c.in-Some.conn c.self.invariant at
+    record {
+      known = known_conn (peer_ties c.self.inside.peers.items) c.self.inside.contexts.standing c.args.id.now.conn c.in-Some.conn c.self.invariant at;
+      named = not_begun arc_value (peer_ties c.self.inside.peers.items) c.self.inside.contexts.standing c.args.self.now.standing c.args.id.now (ap (λ (u : HookedContexts _). u.standing) c.self.view_is) c.requires.fresh;
+    }
 
 pub invariant_of-self-2 : goal.invariant_of-self-2
 invariant_of-self-2 g c =

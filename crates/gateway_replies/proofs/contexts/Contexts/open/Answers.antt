@@ -1,4 +1,4 @@
-use Rattle.gateway_replies.proofs.Names.{◌∙◌, ◌++◌, ◌∷◌, [], ap, sym, arc_value, WithHooks, HookedContexts, peer_ties, names_in, is_peer}
+use Rattle.gateway_replies.proofs.Names.{◌∙◌, ◌++◌, ◌∷◌, [], arith, ap, sym, arc_value, WithHooks, HookedContexts, peer_ties, names_in, is_peer}
 use Rattle.gateway_replies.proofs.ContextLemmas.{opened_tied, opened_value}
 use Rattle.gateway_replies.proofs.HookLemmas.{brings, no_stock_yet}
 use Rattle.gateway_replies.proofs.PeerLemmas.{peer_in}
@@ -26,4 +26,4 @@ returns-clause-hooks g c =
     (c.push_reserved.ensures.items ∙ ap (λ ps. ps ++ record { number = c.args.number; ctx = c.in-Ok.ctx; stock = c.into_hooks-stock.result } ∷ []) c.reserve.ensures.items)
     c.into_hooks-stock.ensures.all c.into_hooks-stock.ensures.full
     (no_stock_yet c.args.number c.self.inside.peers.items (sym (peer_in c.args.number (peer_ties c.self.inside.peers.items) c.self.inside.contexts.standing.conns c.self.invariant.conns_are)
-    ∙ ap (λ (u : HookedContexts _). is_peer c.args.number u.standing.conns) c.self.view_is ∙ c.requires))
+    ∙ ap (λ (u : HookedContexts _). is_peer c.args.number u.standing.conns) c.self.view_is ∙ c.requires c.args.number (omega arith)))
