@@ -1,8 +1,10 @@
 -- The calls of a connection end, one after the other.
-use Rattle.gateway_connection.specs.lemmas.Names.{◌≡◌, ℕ, zero, suc, ◌+◌, ◌≤◌, ◌<◌, refl, sym, ap, ◌∙◌, List, [], ◌∷◌, ◌++◌, Option, Some, None, Bool, true, false, map, length, append-nil, arith, All, if◌then◌else◌, is_some, option_map, option_to_list, slice_set, option_or, All-cons, All-head, All-tail, ReplyEntry, CallId, is_call, ContextsValue, LivesApart, PeerValue, contexts_value, without, Trigger, AreApart, ended_call, ended_kept, reply_for, KeptValue, call_at, HeldConnection, ReplyValue, reply_with, Step, IsFound, given_up, kept_at, same_call, EndsIn, Holds, ended_held, call_apart, call_found, call_itself, call_missing, filled_by, replies_by, linked_calls, over_by, nat_tests}
+use Rattle.gateway_connection.specs.lemmas.Names.{◌≡◌, ℕ, zero, suc, ◌+◌, ◌≤◌, ◌<◌, refl, sym, ap, ◌∙◌, List, [], ◌∷◌, ◌++◌, subst, Option, Some, None, Bool, true, false, map, length, append-nil, arith, All, if◌then◌else◌, is_some, option_map, option_to_list, slice_set, option_or, All-cons, All-head, All-tail, CallEvent, CallState, ReplyEntry, CallId, is_call, ContextsValue, LivesApart, PeerValue, contexts_value, without, Trigger, AreApart, ended_call, ended_kept, reply_for, KeptValue, call_at, HeldConnection, ReplyValue, reply_with, Step, IsFound, given_up, kept_at, same_call, EndsIn, EndsOne, Shared, Holds, ended_held, call_apart, call_found, call_itself, call_missing, ends_with, filled_by, replies_by, linked_calls, over_by, nat_tests}
 use Rattle.std.proofs.lemmas.List.{append_assoc}
-use Rattle.gateway_connection.proofs.DoneLemmas.{done_to}
+use Rattle.gateway_theory.specs.Step.{kept}
+use Rattle.gateway_connection.proofs.DoneLemmas.{done_to, set_same}
 use Rattle.gateway_connection.proofs.HoldsLemmas.{own_id}
+use Rattle.gateway_connection.proofs.LentLemmas.{rest_none}
 use Rattle.gateway_connection.proofs.LinkedLemmas.{set_alike, set_dead}
 use Rattle.gateway_connection.proofs.SlotLemmas.{same_filled}
 
@@ -92,3 +94,22 @@ pub done_given : (trigger : Trigger) (n : ℕ) (ks : List KeptValue) → map giv
 done_given trigger zero ks = refl
 done_given trigger (suc n) [] = refl
 done_given trigger (suc n) (k ∷ ks) = grind (arith, done_given trigger n ks)
+
+-- ---- a call that does not end
+
+-- it can't be decided any more, or no event ends it
+pub not_live : (o : Option CallEvent) (c : CallState) → is_some c.live ≡ false → ends_with o c.out c.live ≡ kept c
+not_live o c off = grind arith
+
+pub no_event : (o : Option CallEvent) (c : CallState) → o ≡ None → ends_with o c.out c.live ≡ kept c
+no_event o c none = grind arith
+
+pub none_ends : {H : Type 0} (i : ℕ) (s : Step) (k : HeldConnection) (a : Shared H) → s ≡ kept (kept_at i k.calls).call → EndsOne i s k k a a
+none_ends i s k a is = subst (λ t. EndsOne i t k k a a) (sym is) (record {
+  conn_is = sym (set_same k i (kept_at i k.calls) refl);
+  made_are = sym (append-nil a.made.items);
+  standing_is = refl;
+  stocks_are = refl;
+  begun_is = refl;
+  rest = rest_none k a;
+})

@@ -4,6 +4,7 @@ use Rattle.std.proofs.lemmas.Simd.{map-map}
 use Rattle.gateway_connection.specs.lemmas.OwnContexts.{is_life_own, is_peer_own, keeps_leaves, others_taken}
 use Rattle.gateway_connection.specs.declared.arriving.Arriving.TheVariants.{Answered, Begins as BeginsCall}
 use Rattle.gateway_connection.proofs.HoldsLemmas.{next_new}
+use Rattle.gateway_connection.proofs.LentLemmas.{rest_none}
 use Rattle.gateway_connection.proofs.LinkedLemmas.{calls_append, none_life}
 use Rattle.gateway_connection.proofs.TimedLemmas.{first_is, first_timed, life_on, with_last}
 
@@ -140,6 +141,10 @@ module _ {H : Type 0} where
 
 -- ---- what came, by what was asked for
 
+-- nothing came
+pub fails_same : {H : Type 0} (k : HeldConnection) (s : Shared H) → MayFail k k s s
+fails_same k s = record { conn_is = refl; begun_is = refl; rest = rest_none k s }
+
 module _ {H : Type 0} (k : HeldConnection) (a b : Shared H) (s : Step) where
   -- only the contexts changed
   module _ (rest : b ≡ record a { contexts = b.contexts }) where
@@ -169,6 +174,20 @@ module _ {H : Type 0} (k : HeldConnection) (a b : Shared H) (s : Step) where
         moment_is = lent_moment at.rest;
         jobs_are = ap (λ (x : Shared H). x.jobs.jobs) at.rest ∙ sym (append-nil a.jobs.jobs);
         waits = ap (λ (x : Shared H). x.jobs.waiting + waiting k.calls) at.rest ∙ ap (λ ks. a.jobs.waiting + waiting ks) (sym (ap (λ (x : HeldConnection). x.calls) l_is ∙ append-nil k.calls));
+        others = answered_others;
+      };
+    })
+
+    -- .. or can't be
+    pub answered_fails : (l : HeldConnection) → l ≡ k → MayFail k l a b
+    answered_fails l same = subst (λ x. MayFail k x a b) (sym same) (record {
+      conn_is = refl;
+      begun_is = lent_begun at.rest;
+      rest = record {
+        plans_are = ap (λ (x : Shared H). x.plans) at.rest;
+        moment_is = lent_moment at.rest;
+        jobs_are = ap (λ (x : Shared H). x.jobs.jobs) at.rest ∙ sym (append-nil a.jobs.jobs);
+        waits = ap (λ (x : Shared H). x.jobs.waiting + waiting k.calls) at.rest;
         others = answered_others;
       };
     })

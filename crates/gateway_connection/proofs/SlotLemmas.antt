@@ -1,12 +1,20 @@
 -- The slots of a connection, as its replies fill them.
-use Rattle.gateway_connection.specs.lemmas.Names.{option_or, subst, ◌≡◌, ℕ, zero, suc, ◌+◌, ◌-◌, ◌≤◌, ◌<◌, Bool, true, List, [], ◌∷◌, ◌++◌, length, map, drop, Option, None, Some, refl, sym, ap, ◌∙◌, arith, slice_index_or, ◌==◌, All, if◌then◌else◌, is_none, slice_get, slice_set, eq-eqb, le-ltb, ltb-false, ltb-true, ne_eqb, get_or-map, get_or_default, map-set, All-cons, All-head, All-nil, All-tail, ReaderValue, ReplyEntry, call_id, AreInPlace, entry_in, fill_at, reply_for, KeptValue, HeldConnection, ReplyValue, TakesReply, replied, held_by, filled_by, reply_in, nat_tests}
+use Rattle.gateway_connection.specs.lemmas.Names.{option_or, subst, ◌≡◌, ℕ, zero, suc, ◌+◌, ◌-◌, ◌≤◌, ◌<◌, Bool, true, false, nat_lt, List, [], ◌∷◌, ◌++◌, length, map, drop, Option, None, Some, refl, sym, ap, ◌∙◌, arith, slice_index_or, ◌==◌, All, if◌then◌else◌, is_none, slice_get, slice_set, eq-eqb, le-ltb, ltb-false, ltb-true, ne_eqb, get_or-map, get_or_default, map-set, All-cons, All-head, All-nil, All-tail, ReaderValue, ReplyEntry, call_id, AreInPlace, entry_in, fill_at, reply_for, KeptValue, HeldConnection, held_connection, ReplyValue, TakesReply, replied, held_by, filled_by, reply_in, nat_tests}
+use Rattle.gateway_theory.specs.Conn.{slot_at}
 use Rattle.gateway_theory.specs.Connection.{filled}
 
--- an empty slot is filled
-pub fill_view : (number taken : ℕ) (calls : List KeptValue) (broken closed hung_up : Bool) (reader : ReaderValue) (slots : List (Option ReplyValue)) (k : ℕ) (r : ReplyValue) (x : Option ReplyValue)
-    → taken ≤ k → k - taken < length slots → x ≡ slice_index_or slots (k - taken) x → is_none x ≡ true
-    → held_by number taken (slice_set slots (k - taken) (Some r)) calls broken closed hung_up reader ≡ replied k (Some r.entry) (held_by number taken slots calls broken closed hung_up reader)
-fill_view number taken calls broken closed hung_up reader slots k r x le lt x_is none = grind (arith, nat_tests, le-ltb, get_or-map, get_or_default, map-set)
+-- a slot that is empty, as it is seen
+pub empty_seen : (slots : List (Option ReplyValue)) (i : ℕ) (x : Option ReplyValue) → i < length slots → x ≡ slice_index_or slots i x → is_none x ≡ true → is_none (slot_at i (map entry_in slots)) ≡ true
+empty_seen slots i x lt x_is none = grind (arith, nat_tests, get_or-map, get_or_default)
+
+-- .. is filled
+pub fill_view : (number taken : ℕ) (calls : List KeptValue) (broken closed hung_up : Bool) (reader : ReaderValue) (slots : List (Option ReplyValue)) (k i : ℕ) (r : ReplyValue)
+    → taken + i ≡ k → is_none (slot_at i (map entry_in slots)) ≡ true
+    → held_by number taken (slice_set slots i (Some r)) calls broken closed hung_up reader ≡ replied k (Some r.entry) (held_by number taken slots calls broken closed hung_up reader)
+fill_view number taken calls broken closed hung_up reader slots k i r is none =
+    let at : k - taken ≡ i = omega (arith, is) in
+    let late : nat_lt k taken ≡ false = le-ltb k taken (omega (arith, is)) in
+    rw (late, at, none) (ap (λ xs. held_connection number taken xs calls broken closed hung_up reader) (map-set entry_in slots i (Some r)))
 
 -- ---- replies, one after the other
 

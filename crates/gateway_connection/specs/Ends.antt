@@ -1,5 +1,5 @@
 -- Calls of a connection that end, and results of their branches, as the code takes them.
-use Rattle.std.specs.Prelude.{◌≡◌, ◌⊎◌, ℕ, ◌++◌, All, Bool, true, false, if◌then◌else◌, is_some, List, [], map, option_map, option_to_list, slice_set, Option, None, Some, OnErr, OnOk, Result}
+use Rattle.std.specs.Prelude.{◌≡◌, ◌⊎◌, ℕ, ◌+◌, ◌<◌, ◌++◌, All, Bool, true, false, if◌then◌else◌, is_none, is_some, length, List, [], map, option_map, option_to_list, slice_set, Option, None, Some, OnErr, OnOk, Result}
 use Rattle.connect_codec.specs.declared.answer.Outcome.{Outcome}
 use Rattle.gateway_model.specs.CallRecord.{CallRecord}
 use Rattle.gateway_model.specs.Job.{JobValue}
@@ -8,6 +8,7 @@ use Rattle.gateway_model.specs.declared.entry.ReplyEntry.{ReplyEntry}
 use Rattle.gateway_model.specs.declared.id.CallId.{CallId}
 use Rattle.gateway_replies.specs.Contexts.{ContextsValue, KeepsOthers, ends_of, is_life, without}
 use Rattle.gateway_replies.specs.Hooks.{HookedContexts}
+use Rattle.gateway_theory.specs.Conn.{slot_at}
 use Rattle.gateway_theory.specs.Ends.{reply_for}
 use Rattle.gateway_theory.specs.Values.{KeptValue, call_at, TaskValue, HeldConnection}
 use Rattle.gateway_theory.specs.Replies.{ReplyValue, reply_with}
@@ -17,7 +18,7 @@ use Rattle.gateway_theory.specs.Task.{job_at}
 use Rattle.gateway_theory.specs.declared.fault.Took.{Took}
 use Rattle.gateway_theory.specs.declared.trigger.Trigger.{Trigger}
 use Rattle.gateway_theory.specs.Connection.{filled}
-use Rattle.gateway_theory.specs.Held.{EndsIn, TakesResult, back_held, broken_held, ended_held, result_in, settled_held, stepped_held}
+use Rattle.gateway_theory.specs.Held.{EndsIn, TakesResult, back_held, broken_held, ended_held, replied, result_in, settled_held, stepped_held}
 use Rattle.gateway_connection.specs.KeptCall.{IsStep}
 use Rattle.gateway_connection.specs.Lent.{LeavesRest}
 use Rattle.gateway_connection.specs.Linked.{ends_with, event_for, none_over}
@@ -111,6 +112,11 @@ module _ {H : Type 0} where
     pub rest : LeavesRest [] k l a b
 
 -- ---- replies
+
+-- the slot of that request stands at this place, and is empty; or no reply fills it
+abbrev pub IsEmptyAt : ℕ → HeldConnection → Option ℕ → Type 0
+IsEmptyAt request k None = (e : ReplyEntry) → k ≡ replied request (Some e) k
+IsEmptyAt request k (Some i) = (k.taken + i ≡ request) × (i < length k.slots) × (is_none (slot_at i k.slots) ≡ true)
 
 -- of these replies the one to that request of the connection
 abbrev pub reply_in : HeldConnection → List ReplyValue → ℕ → Option ReplyEntry

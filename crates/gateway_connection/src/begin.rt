@@ -15,15 +15,23 @@ use std::alloc::{AllocError, Global};
 use std::collections::VecDeque;
 use std::sync::Arc;
 
-/// A call as it begins at this moment, and the branches that start at once: those below the plan's limit. The others wait.
+/// A call that begins.
+#[derive(Drop)]
+pub struct Begun {
+    pub(crate) call: Kept,
+    /// The branches that start at once: those below the plan's limit. The others wait.
+    pub(crate) first: VecDeque<Task>,
+}
+
+/// A call as it begins at this moment.
 pub fn begin(
     alloc: Global,
     id: CallId,
     asked: ArrivedCall,
     moment: u64,
-) -> Result<(Kept, VecDeque<Task>), AllocError>
+) -> Result<Begun, AllocError>
     requires { moment ≤ 2 ^ 62 }
-    ensures { IfOk result (λ made. IsBegun moment id asked made.0 made.1.items) }
+    ensures { IfOk result (λ made. IsBegun moment id asked made.call made.first.items) }
 {
     let plan = Arc::try_clone(&asked.plan)?;
     let asked = Arc::new(alloc, asked)?;
@@ -40,15 +48,13 @@ pub fn begin(
         events,
         deadlines,
     });
-    Ok((
-        Kept {
-            id,
-            out,
-            group,
-            live,
-        },
-        first,
-    ))
+    let call = Kept {
+        id,
+        out,
+        group,
+        live,
+    };
+    Ok(Begun { call, first })
 }
 
 /// Gives the call's branches to its group, in declared order: those that start at once.

@@ -16,6 +16,7 @@ ghost use Rattle.gateway_theory.specs.Step.{has_out};
 ghost use Rattle.gateway_theory.specs.Store.{IsFound, given_up, waiting};
 ghost use Rattle.gateway_theory.specs.Values.{call_at};
 ghost use Rattle.gateway_theory.specs.Held.{Holds, TakesReply, broken_held, closed_held, has_out_in, hears, is_gone, new_held, next_held, replied};
+ghost use Rattle.gateway_connection.specs.Ends.{IsEmptyAt};
 ghost use Rattle.gateway_connection.specs.Lent.{LeavesRest};
 ghost use Rattle.gateway_connection.specs.Linked.{none_over};
 ghost use Rattle.gateway_connection.specs.OwnContexts.{IsTied};
@@ -129,18 +130,28 @@ impl Connection {
         requires { reply.id.conn ≡ self.old.number }
         ensures { self.new ≡ replied reply.id.request (Just reply.entry) self.old }
     {
-        let request = reply.id().request;
-        if request < self.taken {
+        let Some(index) = self.empty_slot(reply.id().request) else {
             return;
+        };
+        self.slots[index] = Some(reply);
+    }
+
+    /// Where the slot of that request stands, if it is empty.
+    fn empty_slot(&self, request: u64) -> Option<usize>
+        ensures { IsEmptyAt request self.now result }
+    {
+        if request < self.taken {
+            return None;
         }
         let index = (request - self.taken) as usize;
         if index < self.slots.len() && self.slots[index].is_none() {
-            self.slots[index] = Some(reply);
+            return Some(index);
         }
+        None
     }
 
     /// What it keeps of its calls and slots. It does nothing.
-    pub fn held_law(&self)
+    pub(crate) fn held_law(&self)
         ensures { Holds self.now }
     {
         let _ = &self.reader;
@@ -180,7 +191,7 @@ impl Connection {
     }
 
     /// Whether pieces of its stream are taken.
-    pub fn is_listening(&self) -> bool
+    pub(crate) fn is_listening(&self) -> bool
         ensures { result ≡ hears self.now }
     {
         !self.closed && !self.broken && !self.hung_up

@@ -36,6 +36,7 @@ impl<H: ReplyHook + Drop> Shared<H> {
         ensures begun { IfOk result (λ shared. shared.begun ≡ 0) }
         ensures made { IfOk result (λ shared. shared.made.items ≡ []) }
     {
+        let made = Vec::with_capacity(alloc, MOST_ENDING)?;
         Ok(Shared {
             alloc,
             plans,
@@ -43,7 +44,7 @@ impl<H: ReplyHook + Drop> Shared<H> {
             contexts: Contexts::new(alloc)?,
             jobs: JobQueue::new(alloc),
             begun: 0,
-            made: Vec::with_capacity(alloc, MOST_ENDING)?,
+            made,
         })
     }
 }

@@ -16,7 +16,7 @@ ghost use Rattle.gateway_connection.specs.Comes.{Arrives, Begins, Enters, MayFai
 ghost use Rattle.gateway_connection.specs.Lent.{MayCome};
 
 use crate::arriving::Arriving;
-use crate::begin::begin;
+use crate::begin::{Begun, begin};
 use crate::connection::Connection;
 use crate::job::Job;
 use crate::jobs::JobQueue;
@@ -176,10 +176,14 @@ impl Connection {
         if shared.begun >= MOST_BEGUN {
             return Err(StepFault::Exhausted);
         }
-        let (call, first) = begin(shared.alloc, self.next_id(), asked, shared.moment)?;
+        let id = self.next_id();
         self.calls.reserve(1)?;
         self.slots.reserve(1)?;
-        shared.jobs.reserve(call.waiting() + first.len())?;
+        let begun = begin(shared.alloc, id, asked, shared.moment)?;
+        shared
+            .jobs
+            .reserve(begun.call.waiting() + begun.first.len())?;
+        let Begun { call, first } = begun;
         self.calls.push_reserved(call);
         self.slots.push_back_reserved(None);
         start_all(&mut shared.jobs, first, shared.moment);

@@ -2,8 +2,8 @@ use Rattle.gateway_connection.specs.lemmas.Names.{◌≡◌, arith, ap, sym, ◌
 use Rattle.gateway_connection.proofs.GroupLemmas.{begun_few, begun_kept, is_begun}
 use Rattle.gateway_connection.proofs.begin.begin.Goals as goal
 
-pub invariant_of-result : goal.invariant_of-result
-invariant_of-result c =
+pub invariant_of-call : goal.invariant_of-call
+invariant_of-call c =
     let a : ArrivedCall = c.args.asked in
     let asked : arc_value c.in_ok-asked.asked ≡ a = c.in_ok-asked.ensures.ok in
     let plan : arc_value c.in_ok-plan.plan ≡ a.plan = c.in_ok-plan.ensures ∙ ap (λ (x : ArrivedCall). x.plan) c.asked.view_is in

@@ -1,5 +1,5 @@
 use Rattle.gateway_connection.specs.lemmas.Names.{◌≡◌, ◌∙◌, ◌++◌, ◌∷◌, [], None, Some, ap, append-nil, false, refl, sym, subst, Call as Calling, CallId, record_of, ContextsValue, KeepsOthers, by_drain, contexts_value, ends_of, is_life, is_peer, without, TakesAtMostOne, stock_in, begun_live, ends_first, first_out, is_full, ReplyValue, step_to, gone, err_if, next_held, event_for, life_in, none_over, LeavesOthers}
-use Rattle.gateway_connection.proofs.EnterLemmas.{asking_first, begun_gone, begun_is, begun_on, begun_others, first_event, first_linked, keeps_then, may_ends, may_fresh, may_known, may_stocked, stays_same, taken_leaves, takes_then}
+use Rattle.gateway_connection.proofs.EnterLemmas.{asking_first, begun_gone, begun_is, begun_on, begun_others, first_event, fails_same, first_linked, keeps_then, may_ends, may_fresh, may_known, may_stocked, stays_same, taken_leaves, takes_then}
 use Rattle.gateway_connection.proofs.connection.Connection.asking.Goals as goal
 
 pub begin-requires-clause-known : goal.begin-requires-clause-known
@@ -18,6 +18,9 @@ reply_to-requires g c =
 pub start_first-requires-clause-known : goal.start_first-requires-clause-known
 start_first-requires-clause-known g c =
     ap (λ (x : ContextsValue). is_life c.next_id-id.result x.calls) c.in_ok-begin.ensures.ok ∙ begun_is c.args.shared.now.moment c.next_id-id.result c.args.asked c.args.shared.now.contexts.standing
+
+pub returns-in_err-reply-clause-err : goal.returns-in_err-reply-clause-err
+returns-in_err-reply-clause-err g c = err_if c.from_residual.result (fails_same c.args.self.now c.args.shared.now)
 
 pub returns-in_err-begin-clause-err : goal.returns-in_err-begin-clause-err
 returns-in_err-begin-clause-err g c =

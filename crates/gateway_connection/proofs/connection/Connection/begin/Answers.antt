@@ -1,4 +1,4 @@
-use Rattle.gateway_connection.specs.lemmas.Names.{◌≡◌, ◌∙◌, ◌++◌, ◌∷◌, [], None, ap, arith, map, refl, sym, subst, map-append, sum_by_push, AreInPlace, entry_in, KeptValue, HeldConnection, held_connection, waiting, waiting_in, job_at, Holds, next_held, held_by, JobsValue, IsBegun}
+use Rattle.gateway_connection.specs.lemmas.Names.{◌≡◌, ◌∙◌, ◌++◌, ◌∷◌, [], None, ap, arith, err_if, map, refl, sym, subst, map-append, sum_by_push, AreInPlace, entry_in, KeptValue, HeldConnection, held_connection, waiting, waiting_in, job_at, Holds, next_held, held_by, JobsValue, IsBegun}
 use Rattle.gateway_connection.proofs.EnterLemmas.{begun_held, first_queued}
 use Rattle.gateway_connection.proofs.HoldsLemmas.{holds_begun}
 use Rattle.gateway_connection.proofs.SlotLemmas.{more_place}
@@ -18,20 +18,27 @@ invariant_of-self-in_err-reserve-3 g c = (
       (subst (λ ks. Holds (held_by c.self.inside.number c.self.inside.taken c.self.inside.slots.items ks c.self.inside.broken c.self.inside.closed c.self.inside.hung_up c.self.inside.reader)) (sym c.reserve.ensures.items) c.self.invariant.1),
 )
 
+pub invariant_of-self-in_err-begun : goal.invariant_of-self-in_err-begun
+invariant_of-self-in_err-begun g c = (
+  subst (AreInPlace c.self.inside.number c.self.inside.taken) (sym c.reserve-2.ensures.items) c.self.invariant.0,
+  subst (λ xs. Holds (held_by c.self.inside.number c.self.inside.taken xs c.reserve.new.self.items c.self.inside.broken c.self.inside.closed c.self.inside.hung_up c.self.inside.reader)) (sym c.reserve-2.ensures.items)
+      (subst (λ ks. Holds (held_by c.self.inside.number c.self.inside.taken c.self.inside.slots.items ks c.self.inside.broken c.self.inside.closed c.self.inside.hung_up c.self.inside.reader)) (sym c.reserve.ensures.items) c.self.invariant.1),
+)
+
 pub invariant_of-self-2 : goal.invariant_of-self-2
 invariant_of-self-2 g c =
     let slots : c.push_back_reserved.new.self.items ≡ c.self.inside.slots.items ++ None ∷ [] = c.push_back_reserved.ensures.items ∙ ap (λ xs. xs ++ None ∷ []) c.reserve-2.ensures.items in
-    let calls : c.push_reserved.new.self.items ≡ c.self.inside.calls.items ++ c.in_ok-call.call ∷ [] = c.push_reserved.ensures.items ∙ ap (λ ks. ks ++ c.in_ok-call.call ∷ []) c.reserve.ensures.items in
+    let calls : c.push_reserved.new.self.items ≡ c.self.inside.calls.items ++ c.in_ok-begun.begun.call ∷ [] = c.push_reserved.ensures.items ∙ ap (λ ks. ks ++ c.in_ok-begun.begun.call ∷ []) c.reserve.ensures.items in
     let now : (held_by c.self.inside.number c.self.inside.taken c.push_back_reserved.new.self.items c.push_reserved.new.self.items c.self.inside.broken c.self.inside.closed c.self.inside.hung_up c.self.inside.reader)
-    ≡ record (held_by c.self.inside.number c.self.inside.taken c.self.inside.slots.items c.self.inside.calls.items c.self.inside.broken c.self.inside.closed c.self.inside.hung_up c.self.inside.reader) { slots = map entry_in c.self.inside.slots.items ++ None ∷ []; calls = c.self.inside.calls.items ++ c.in_ok-call.call ∷ [] } =
+    ≡ record (held_by c.self.inside.number c.self.inside.taken c.self.inside.slots.items c.self.inside.calls.items c.self.inside.broken c.self.inside.closed c.self.inside.hung_up c.self.inside.reader) { slots = map entry_in c.self.inside.slots.items ++ None ∷ []; calls = c.self.inside.calls.items ++ c.in_ok-begun.begun.call ∷ [] } =
     ap (λ xs. (held_by c.self.inside.number c.self.inside.taken xs c.push_reserved.new.self.items c.self.inside.broken c.self.inside.closed c.self.inside.hung_up c.self.inside.reader)) slots
     ∙ ap (λ ks. (held_by c.self.inside.number c.self.inside.taken (c.self.inside.slots.items ++ None ∷ []) ks c.self.inside.broken c.self.inside.closed c.self.inside.hung_up c.self.inside.reader)) calls
-    ∙ ap (λ xs. held_connection c.self.inside.number c.self.inside.taken xs (c.self.inside.calls.items ++ c.in_ok-call.call ∷ []) c.self.inside.broken c.self.inside.closed c.self.inside.hung_up c.self.inside.reader)
+    ∙ ap (λ xs. held_connection c.self.inside.number c.self.inside.taken xs (c.self.inside.calls.items ++ c.in_ok-begun.begun.call ∷ []) c.self.inside.broken c.self.inside.closed c.self.inside.hung_up c.self.inside.reader)
     (map-append entry_in c.self.inside.slots.items (None ∷ [])) in (
       subst (AreInPlace c.self.inside.number c.self.inside.taken) (sym slots) (more_place c.self.inside.number c.self.inside.taken c.self.inside.slots.items c.self.invariant.0),
       holds_begun (held_by c.self.inside.number c.self.inside.taken c.self.inside.slots.items c.self.inside.calls.items c.self.inside.broken c.self.inside.closed c.self.inside.hung_up c.self.inside.reader)
-          (held_by c.self.inside.number c.self.inside.taken c.push_back_reserved.new.self.items c.push_reserved.new.self.items c.self.inside.broken c.self.inside.closed c.self.inside.hung_up c.self.inside.reader) c.in_ok-call.call now
-          (ap (λ (x : KeptValue). x.id) c.in_ok-call.ensures.call_is ∙ c.next_id.ensures ∙ ap next_held (sym c.self.view_is))
+          (held_by c.self.inside.number c.self.inside.taken c.push_back_reserved.new.self.items c.push_reserved.new.self.items c.self.inside.broken c.self.inside.closed c.self.inside.hung_up c.self.inside.reader) c.in_ok-begun.begun.call now
+          (ap (λ (x : KeptValue). x.id) c.in_ok-begun.ensures.call_is ∙ c.next_id-id.ensures ∙ ap next_held (sym c.self.view_is))
           (ap (λ (x : HeldConnection). x.closed) c.self.view_is ∙ c.requires.open) (ap (λ (x : HeldConnection). x.broken) c.self.view_is ∙ c.requires.whole)
           (let room = c.requires.room in omega (arith, room, ap (λ (x : HeldConnection). (next_held x).request) c.self.view_is)) c.self.invariant.1,
     )
@@ -39,24 +46,24 @@ invariant_of-self-2 g c =
 pub returns-clause-ok : goal.returns-clause-ok
 returns-clause-ok g c =
     let slots : c.push_back_reserved.new.self.items ≡ c.self.inside.slots.items ++ None ∷ [] = c.push_back_reserved.ensures.items ∙ ap (λ xs. xs ++ None ∷ []) c.reserve-2.ensures.items in
-    let calls : c.push_reserved.new.self.items ≡ c.self.inside.calls.items ++ c.in_ok-call.call ∷ [] = c.push_reserved.ensures.items ∙ ap (λ ks. ks ++ c.in_ok-call.call ∷ []) c.reserve.ensures.items in
+    let calls : c.push_reserved.new.self.items ≡ c.self.inside.calls.items ++ c.in_ok-begun.begun.call ∷ [] = c.push_reserved.ensures.items ∙ ap (λ ks. ks ++ c.in_ok-begun.begun.call ∷ []) c.reserve.ensures.items in
     let now : (held_by c.self.inside.number c.self.inside.taken c.push_back_reserved.new.self.items c.push_reserved.new.self.items c.self.inside.broken c.self.inside.closed c.self.inside.hung_up c.self.inside.reader)
-    ≡ record (held_by c.self.inside.number c.self.inside.taken c.self.inside.slots.items c.self.inside.calls.items c.self.inside.broken c.self.inside.closed c.self.inside.hung_up c.self.inside.reader) { slots = map entry_in c.self.inside.slots.items ++ None ∷ []; calls = c.self.inside.calls.items ++ c.in_ok-call.call ∷ [] } =
+    ≡ record (held_by c.self.inside.number c.self.inside.taken c.self.inside.slots.items c.self.inside.calls.items c.self.inside.broken c.self.inside.closed c.self.inside.hung_up c.self.inside.reader) { slots = map entry_in c.self.inside.slots.items ++ None ∷ []; calls = c.self.inside.calls.items ++ c.in_ok-begun.begun.call ∷ [] } =
     ap (λ xs. (held_by c.self.inside.number c.self.inside.taken xs c.push_reserved.new.self.items c.self.inside.broken c.self.inside.closed c.self.inside.hung_up c.self.inside.reader)) slots
     ∙ ap (λ ks. (held_by c.self.inside.number c.self.inside.taken (c.self.inside.slots.items ++ None ∷ []) ks c.self.inside.broken c.self.inside.closed c.self.inside.hung_up c.self.inside.reader)) calls
-    ∙ ap (λ xs. held_connection c.self.inside.number c.self.inside.taken xs (c.self.inside.calls.items ++ c.in_ok-call.call ∷ []) c.self.inside.broken c.self.inside.closed c.self.inside.hung_up c.self.inside.reader)
+    ∙ ap (λ xs. held_connection c.self.inside.number c.self.inside.taken xs (c.self.inside.calls.items ++ c.in_ok-begun.begun.call ∷ []) c.self.inside.broken c.self.inside.closed c.self.inside.hung_up c.self.inside.reader)
     (map-append entry_in c.self.inside.slots.items (None ∷ [])) in
-    let begun : IsBegun c.args.shared.now.moment (next_held c.args.self.now) c.args.asked c.in_ok-call.call c.in_ok-call.first.items =
-    subst (λ d. IsBegun c.args.shared.now.moment d c.args.asked c.in_ok-call.call c.in_ok-call.first.items) c.next_id.ensures c.in_ok-call.ensures in
+    let begun : IsBegun c.args.shared.now.moment (next_held c.args.self.now) c.args.asked c.in_ok-begun.begun.call c.in_ok-begun.begun.first.items =
+    subst (λ d. IsBegun c.args.shared.now.moment d c.args.asked c.in_ok-begun.begun.call c.in_ok-begun.begun.first.items) c.next_id-id.ensures c.in_ok-begun.ensures in
     let made = ap (λ (q : JobsValue). q.jobs) c.in_ok-reserve-3.ensures.ok in
     let counted = ap (λ (q : JobsValue). q.waiting) c.in_ok-reserve-3.ensures.ok in
     record {
-      conn_is = now ∙ ap (λ (x : HeldConnection). record x { slots = x.slots ++ None ∷ []; calls = x.calls ++ c.in_ok-call.call ∷ [] }) c.self.view_is
-          ∙ begun_held c.args.self.now c.args.shared.now.moment c.args.asked c.in_ok-call.call c.in_ok-call.first.items begun;
+      conn_is = now ∙ ap (λ (x : HeldConnection). record x { slots = x.slots ++ None ∷ []; calls = x.calls ++ c.in_ok-begun.begun.call ∷ [] }) c.self.view_is
+          ∙ begun_held c.args.self.now c.args.shared.now.moment c.args.asked c.in_ok-begun.begun.call c.in_ok-begun.begun.first.items begun;
       begun_is = refl;
       few = omega (arith, c.if-shared-ge-MOST_BEGUN.false);
-      jobs_are = c.start_all.ensures.jobs ∙ ap (λ js. js ++ map (job_at c.args.shared.now.moment) c.in_ok-call.first.items) made
-          ∙ ap (λ js. c.args.shared.now.jobs.jobs ++ js) (first_queued c.args.shared.now.moment (next_held c.args.self.now) c.args.asked c.in_ok-call.first.items begun.first_are);
+      jobs_are = c.start_all.ensures.jobs ∙ ap (λ js. js ++ map (job_at c.args.shared.now.moment) c.in_ok-begun.begun.first.items) made
+          ∙ ap (λ js. c.args.shared.now.jobs.jobs ++ js) (first_queued c.args.shared.now.moment (next_held c.args.self.now) c.args.asked c.in_ok-begun.begun.first.items begun.first_are);
       waits = omega (
         arith,
         c.start_all.ensures.waits,
@@ -64,8 +71,31 @@ returns-clause-ok g c =
         c.waiting.ensures,
         c.len.ensures,
         ap waiting calls,
-        sum_by_push waiting_in c.self.inside.calls.items c.in_ok-call.call,
+        sum_by_push waiting_in c.self.inside.calls.items c.in_ok-begun.begun.call,
         ap (λ (x : HeldConnection). waiting x.calls) c.self.view_is,
       );
       rest = refl;
     }
+
+pub returns-in_err-reserve-clause-err : goal.returns-in_err-reserve-clause-err
+returns-in_err-reserve-clause-err g c =
+    err_if c.from_residual.result
+    (ap (λ ks. held_by c.self.inside.number c.self.inside.taken c.self.inside.slots.items ks c.self.inside.broken c.self.inside.closed c.self.inside.hung_up c.self.inside.reader) c.reserve.ensures.items ∙ c.self.view_is)
+
+pub returns-in_err-reserve-2-clause-err : goal.returns-in_err-reserve-2-clause-err
+returns-in_err-reserve-2-clause-err g c =
+    err_if c.from_residual-in_err-reserve-2.result
+    (ap (λ xs. held_by c.self.inside.number c.self.inside.taken xs c.reserve.new.self.items c.self.inside.broken c.self.inside.closed c.self.inside.hung_up c.self.inside.reader) c.reserve-2.ensures.items
+    ∙ ap (λ ks. held_by c.self.inside.number c.self.inside.taken c.self.inside.slots.items ks c.self.inside.broken c.self.inside.closed c.self.inside.hung_up c.self.inside.reader) c.reserve.ensures.items ∙ c.self.view_is)
+
+pub returns-in_err-begun-clause-err : goal.returns-in_err-begun-clause-err
+returns-in_err-begun-clause-err g c =
+    err_if c.from_residual-in_err-begun.result
+    (ap (λ xs. held_by c.self.inside.number c.self.inside.taken xs c.reserve.new.self.items c.self.inside.broken c.self.inside.closed c.self.inside.hung_up c.self.inside.reader) c.reserve-2.ensures.items
+    ∙ ap (λ ks. held_by c.self.inside.number c.self.inside.taken c.self.inside.slots.items ks c.self.inside.broken c.self.inside.closed c.self.inside.hung_up c.self.inside.reader) c.reserve.ensures.items ∙ c.self.view_is)
+
+pub returns-in_err-reserve-3-clause-err : goal.returns-in_err-reserve-3-clause-err
+returns-in_err-reserve-3-clause-err g c =
+    err_if c.from_residual-in_err-reserve-3.result
+    (ap (λ xs. held_by c.self.inside.number c.self.inside.taken xs c.reserve.new.self.items c.self.inside.broken c.self.inside.closed c.self.inside.hung_up c.self.inside.reader) c.reserve-2.ensures.items
+    ∙ ap (λ ks. held_by c.self.inside.number c.self.inside.taken c.self.inside.slots.items ks c.self.inside.broken c.self.inside.closed c.self.inside.hung_up c.self.inside.reader) c.reserve.ensures.items ∙ c.self.view_is)

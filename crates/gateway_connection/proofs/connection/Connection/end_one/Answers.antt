@@ -1,8 +1,20 @@
-use Rattle.gateway_connection.specs.lemmas.Names.{◌≡◌, ◌<◌, ◌++◌, ◌∷◌, ◌∙◌, Some, [], ap, append-nil, arith, length, refl, sym, subst, true, if◌then◌else◌, is_some, option_map, option_to_list, slice_set, without, KeptValue, HeldConnection, reply_with, given_up, kept_at, no_call, waiting, waiting_in, err_if, Holds, broken_held, ending_of, held_by, JobsValue, ends_with, event_for, LeavesContexts, LeavesOthers}
+use Rattle.gateway_connection.specs.lemmas.Names.{◌≡◌, ◌<◌, ◌++◌, ◌∷◌, ◌∙◌, Some, None, [], ap, append-nil, arith, length, refl, sym, subst, true, if◌then◌else◌, is_some, option_map, option_to_list, slice_set, without, KeptValue, HeldConnection, reply_with, given_up, kept_at, no_call, waiting, waiting_in, err_if, Holds, broken_held, ending_of, held_by, JobsValue, ends_with, event_for, is_life, LeavesContexts, LeavesOthers}
 use Rattle.gateway_connection.specs.lemmas.OwnContexts.{keeps_leaves, others_same, without_leaves}
 use Rattle.gateway_connection.proofs.DoneLemmas.{part_waits, given_first, given_waits, some_ends}
+use Rattle.gateway_connection.proofs.EndLemmas.{no_event, none_ends, not_live}
 use Rattle.gateway_connection.proofs.HoldsLemmas.{here_is, holds_set}
+use Rattle.gateway_connection.proofs.LentLemmas.{rest_none}
 use Rattle.gateway_connection.proofs.connection.Connection.end_one.Goals as goal
+
+pub invariant_of-self : goal.invariant_of-self
+invariant_of-self g c =
+    let items = ap (λ (k : HeldConnection). k.calls) c.self.view_is in
+    let lt : c.args.index < length c.self.inside.calls.items = (let within = c.requires.there in omega (arith, within, ap length items)) in
+    let was = here_is c.self.inside.calls.items c.self.inside.calls.items c.args.index c.index_mut-call.result.now refl lt c.index_mut-call.ensures.value in (
+      c.self.invariant.0,
+      holds_set (held_by c.self.inside.number c.self.inside.taken c.self.inside.slots.items c.self.inside.calls.items c.self.inside.broken c.self.inside.closed c.self.inside.hung_up c.self.inside.reader) (held_by c.self.inside.number c.self.inside.taken c.self.inside.slots.items (slice_set c.self.inside.calls.items c.args.index c.end.new.self) c.self.inside.broken c.self.inside.closed c.self.inside.hung_up c.self.inside.reader)
+          c.args.index c.end.new.self refl refl refl refl refl (ap (λ (x : KeptValue). x.id) (c.end.ensures.given ∙ ap given_up was)) (λ shut. ap (λ (x : KeptValue). x.call.live) c.end.ensures.given) c.self.invariant.1,
+    )
 
 pub invariant_of-self-2 : goal.invariant_of-self-2
 invariant_of-self-2 g c =
@@ -102,3 +114,64 @@ returns-clause-ok g c =
         others = others;
       };
     }
+
+pub returns-then-not-is_live-clause-ok : goal.returns-then-not-is_live-clause-ok
+returns-then-not-is_live-clause-ok g c =
+    let items = ap (λ (k : HeldConnection). k.calls) c.self.view_is in
+    let lt : c.args.index < length c.self.inside.calls.items = (let within = c.requires.there in omega (arith, within, ap length items)) in
+    let seen : c.index.result.now ≡ kept_at c.args.index c.args.self.now.calls = here_is c.self.inside.calls.items c.args.self.now.calls c.args.index c.index.result.now items lt c.index.ensures in
+    none_ends c.args.index (ending_of c.args.index c.args.self.now c.args.shared.now) c.args.self.now c.args.shared.now
+    (not_live (event_for c.args.shared.now.moment (kept_at c.args.index c.args.self.now.calls).id c.args.shared.now.contexts.standing) (kept_at c.args.index c.args.self.now.calls).call (ap (λ (x : KeptValue). is_some x.call.live) (sym seen) ∙ sym c.is_live.ensures ∙ c.if-not-is_live.true))
+
+pub returns-in_default-clause-ok : goal.returns-in_default-clause-ok
+returns-in_default-clause-ok g c =
+    let items = ap (λ (k : HeldConnection). k.calls) c.self.view_is in
+    let lt : c.args.index < length c.self.inside.calls.items = (let within = c.requires.there in omega (arith, within, ap length items)) in
+    let named : c.index-2.result.now ≡ kept_at c.args.index c.args.self.now.calls = here_is c.self.inside.calls.items c.args.self.now.calls c.args.index c.index-2.result.now items lt c.index-2.ensures in
+    let event : event_for c.args.shared.now.moment (kept_at c.args.index c.args.self.now.calls).id c.args.shared.now.contexts.standing ≡ None =
+    ap (λ d. event_for c.args.shared.now.moment d c.args.shared.now.contexts.standing) (sym (c.id-id.ensures ∙ ap (λ (x : KeptValue). x.id) named)) ∙ sym c.ending.ensures ∙ c.in_default.is in
+    none_ends c.args.index (ending_of c.args.index c.args.self.now c.args.shared.now) c.args.self.now c.args.shared.now (no_event (event_for c.args.shared.now.moment (kept_at c.args.index c.args.self.now.calls).id c.args.shared.now.contexts.standing) (kept_at c.args.index c.args.self.now.calls).call event)
+
+pub returns-in_err-reserve-clause-err : goal.returns-in_err-reserve-clause-err
+returns-in_err-reserve-clause-err g c =
+    let items = ap (λ (k : HeldConnection). k.calls) c.self.view_is in
+    let lt : c.args.index < length c.self.inside.calls.items = (let within = c.requires.there in omega (arith, within, ap length items)) in
+    let seen : c.index.result.now ≡ kept_at c.args.index c.args.self.now.calls = here_is c.self.inside.calls.items c.args.self.now.calls c.args.index c.index.result.now items lt c.index.ensures in
+    let named : c.index-2.result.now ≡ kept_at c.args.index c.args.self.now.calls = here_is c.self.inside.calls.items c.args.self.now.calls c.args.index c.index-2.result.now items lt c.index-2.ensures in
+    let live : is_some (kept_at c.args.index c.args.self.now.calls).call.live ≡ true = ap (λ (x : KeptValue). is_some x.call.live) (sym seen) ∙ sym c.is_live.ensures ∙ c.if-not-is_live.false in
+    let event : event_for c.args.shared.now.moment (kept_at c.args.index c.args.self.now.calls).id c.args.shared.now.contexts.standing ≡ Some c.in-Some.event =
+    ap (λ d. event_for c.args.shared.now.moment d c.args.shared.now.contexts.standing) (sym (c.id-id.ensures ∙ ap (λ (x : KeptValue). x.id) named)) ∙ sym c.ending.ensures ∙ c.in-Some.is in
+    let ends = some_ends c.in-Some.event (event_for c.args.shared.now.moment (kept_at c.args.index c.args.self.now.calls).id c.args.shared.now.contexts.standing) (kept_at c.args.index c.args.self.now.calls) event live in
+    let rest = rest_none c.args.self.now c.args.shared.now in
+    err_if c.from_residual.result (record {
+      ends = ends.1;
+      broken = refl;
+      number_is = refl;
+      begun_is = refl;
+      rest = record { plans_are = refl; moment_is = refl; jobs_are = rest.jobs_are; waits = refl; others = rest.others };
+    })
+
+pub end-requires-clause-known : goal.end-requires-clause-known
+end-requires-clause-known g c =
+    let items = ap (λ (k : HeldConnection). k.calls) c.self.view_is in
+    let lt : c.args.index < length c.self.inside.calls.items = (let within = c.requires.there in omega (arith, within, ap length items)) in
+    let seen : c.index.result.now ≡ kept_at c.args.index c.args.self.now.calls = here_is c.self.inside.calls.items c.args.self.now.calls c.args.index c.index.result.now items lt c.index.ensures in
+    let was : c.index_mut-call.result.now ≡ kept_at c.args.index c.args.self.now.calls = here_is c.self.inside.calls.items c.args.self.now.calls c.args.index c.index_mut-call.result.now items lt c.index_mut-call.ensures.value in
+    let live : is_some (kept_at c.args.index c.args.self.now.calls).call.live ≡ true = ap (λ (x : KeptValue). is_some x.call.live) (sym seen) ∙ sym c.is_live.ensures ∙ c.if-not-is_live.false in
+    ap (λ (x : KeptValue). is_life x.id c.args.shared.now.contexts.standing.calls) was ∙ c.requires.known live
+
+pub end-requires-clause-live : goal.end-requires-clause-live
+end-requires-clause-live g c =
+    let items = ap (λ (k : HeldConnection). k.calls) c.self.view_is in
+    let lt : c.args.index < length c.self.inside.calls.items = (let within = c.requires.there in omega (arith, within, ap length items)) in
+    let seen : c.index.result.now ≡ kept_at c.args.index c.args.self.now.calls = here_is c.self.inside.calls.items c.args.self.now.calls c.args.index c.index.result.now items lt c.index.ensures in
+    let was : c.index_mut-call.result.now ≡ kept_at c.args.index c.args.self.now.calls = here_is c.self.inside.calls.items c.args.self.now.calls c.args.index c.index_mut-call.result.now items lt c.index_mut-call.ensures.value in
+    ap (λ (x : KeptValue). is_some x.call.live) (was ∙ sym seen) ∙ sym c.is_live.ensures ∙ c.if-not-is_live.false
+
+pub release-requires : goal.release-requires
+release-requires g c =
+    let items = ap (λ (k : HeldConnection). k.calls) c.self.view_is in
+    let lt : c.args.index < length c.self.inside.calls.items = (let within = c.requires.there in omega (arith, within, ap length items)) in
+    let was : c.index_mut-call.result.now ≡ kept_at c.args.index c.args.self.now.calls = here_is c.self.inside.calls.items c.args.self.now.calls c.args.index c.index_mut-call.result.now items lt c.index_mut-call.ensures.value in
+    let part = part_waits c.args.self.now.calls c.args.index c.requires.there in
+    omega (arith, c.waiting.ensures, ap waiting_in was, part, c.requires.waits)

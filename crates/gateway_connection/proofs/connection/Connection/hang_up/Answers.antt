@@ -1,4 +1,5 @@
 use Rattle.gateway_connection.specs.lemmas.Names.{◌∙◌, [], ap, sym, subst, HungUp, told, hung_held, HeldConnection, LeavesRest, MayStep, over_by}
+use Rattle.gateway_connection.proofs.LentLemmas.{rest_none}
 use Rattle.gateway_connection.proofs.StreamLemmas.{hung_may, hung_rest}
 use Rattle.gateway_connection.proofs.connection.Connection.hang_up.Goals as goal
 
@@ -16,3 +17,6 @@ pub returns-clause-rest : goal.returns-clause-rest
 returns-clause-rest g c =
     hung_rest c.args.self.now c.end_calls.new.self c.args.shared.now c.end_calls.new.shared c.tell.new.self (c.tell.ensures.ended ∙ ap (λ (k : HeldConnection). told (HungUp k.number) c.args.shared.now.contexts.standing) c.self.view_is)
     c.tell.ensures.hooks (subst (λ k. LeavesRest [] k c.end_calls.new.self (record c.args.shared.now { contexts = c.tell.new.self }) c.end_calls.new.shared) (ap hung_held c.self.view_is) c.if-end_calls.ensures.rest)
+
+pub returns-then-not-is_listening-clause-rest : goal.returns-then-not-is_listening-clause-rest
+returns-then-not-is_listening-clause-rest g c = rest_none c.args.self.now c.args.shared.now

@@ -1,4 +1,4 @@
-use Rattle.gateway_connection.specs.lemmas.Names.{◌≡◌, ◌<◌, ◌+◌, ◌∷◌, ◌∙◌, Some, [], ap, append-nil, arith, inl, length, refl, sym, subst, false, ◌||◌, if◌then◌else◌, is_some, slice_set, ContextsValue, KeepsOthers, ends_of, is_life, peer, KeptValue, Live, HeldConnection, result_on, kept_at, no_call, waiting, waiting_in, err_if, Holds, result_in, JobsValue, GoesOn, IsStep, none_over, passed_on, LeavesContexts, LeavesOthers, own_contexts}
+use Rattle.gateway_connection.specs.lemmas.Names.{◌≡◌, ◌<◌, ◌+◌, ◌∷◌, ◌∙◌, Some, [], ap, append-nil, arith, inl, length, refl, sym, subst, false, ◌||◌, if◌then◌else◌, is_some, has_out, slice_set, ContextsValue, KeepsOthers, ends_of, is_life, peer, KeptValue, Live, HeldConnection, held_by, result_on, kept_at, no_call, waiting, waiting_in, err_if, Holds, result_in, JobsValue, GoesOn, IsStep, none_over, passed_on, LeavesContexts, LeavesOthers, own_contexts}
 use Rattle.gateway_connection.specs.lemmas.OwnContexts.{apart_own, is_life_own, keeps_leaves, leaves_none, others_same}
 use Rattle.gateway_connection.proofs.DoneLemmas.{part_waits, set_waits, set_same}
 use Rattle.gateway_connection.proofs.HoldsLemmas.{here_is}
@@ -103,3 +103,25 @@ returns-clause-ok g c =
             (keeps_leaves c.args.self.now.number c.args.shared.now.contexts.standing c.pass_on.new.contexts.standing keeps) c.pass_on.ensures.stocks;
       };
     }
+
+pub start-requires-clause-room : goal.start-requires-clause-room
+start-requires-clause-room g c =
+    let items = ap (λ (k : HeldConnection). k.calls) c.self.view_is in
+    let lt : c.args.index < length c.self.inside.calls.items = (let within = c.requires.there in omega (arith, within, ap length items)) in
+    let was : c.index_mut-call.result.now ≡ kept_at c.args.index c.args.self.now.calls = here_is c.self.inside.calls.items c.args.self.now.calls c.args.index c.index_mut-call.result.now items lt c.index_mut-call.ensures.value in
+    let part = part_waits c.args.self.now.calls c.args.index c.requires.there in
+    omega (arith, c.waiting-waited.ensures, ap waiting_in was, part, c.requires.may.waits)
+
+pub take_result-taken-requires-clause-out : goal.take_result-taken-requires-clause-out
+take_result-taken-requires-clause-out g c =
+    let items = ap (λ (k : HeldConnection). k.calls) c.self.view_is in
+    let lt : c.args.index < length c.self.inside.calls.items = (let within = c.requires.there in omega (arith, within, ap length items)) in
+    let was : c.index_mut-call.result.now ≡ kept_at c.args.index c.args.self.now.calls = here_is c.self.inside.calls.items c.args.self.now.calls c.args.index c.index_mut-call.result.now items lt c.index_mut-call.ensures.value in
+    ap (λ (x : KeptValue). has_out x.call c.args.branch) was ∙ c.requires.out
+
+pub invariant_of-self : goal.invariant_of-self
+invariant_of-self g c =
+    let items = ap (λ (k : HeldConnection). k.calls) c.self.view_is in
+    let lt : c.args.index < length c.self.inside.calls.items = (let within = c.requires.there in omega (arith, within, ap length items)) in
+    let was = here_is c.self.inside.calls.items c.self.inside.calls.items c.args.index c.index_mut-call.result.now refl lt c.index_mut-call.ensures.value in
+    (c.self.invariant.0, subst Holds (sym (set_same (held_by c.self.inside.number c.self.inside.taken c.self.inside.slots.items c.self.inside.calls.items c.self.inside.broken c.self.inside.closed c.self.inside.hung_up c.self.inside.reader) c.args.index c.index_mut-call.result.now was)) c.self.invariant.1)
