@@ -1,6 +1,5 @@
 -- Lemmas on what was written and read in an exchange over ends that wait.
-use Rattle.std.proofs.Common.{◌≡◌, ℕ, ◌-◌, List, [], ◌++◌, take, drop, refl, sym, ap, ◌∙◌, subst, append_assoc}
-use Rattle.std.specs.Prelude.{Option, Some}
+use Rattle.backend_pool.proofs.Names.{◌≡◌, ℕ, ◌-◌, List, [], ◌++◌, take, drop, refl, sym, ap, ◌∙◌, subst, append_assoc, Option, Some}
 use Rattle.std.specs.Io.KnownBytes.{Appends}
 use Rattle.std.proofs.KnownBytes.{Appends-nil, Appends-trans}
 use Rattle.std.proofs.lemmas.List.{take-append-drop}

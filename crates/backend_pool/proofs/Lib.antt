@@ -1,3 +1,4 @@
+pub mod Names
 mod WorkLemmas
 mod ExchangeLemmas
 mod BookLemmas

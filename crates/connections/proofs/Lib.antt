@@ -1,3 +1,4 @@
+pub mod Names
 mod TellLemmas
 mod PumpLemmas
 mod WriteLemmas

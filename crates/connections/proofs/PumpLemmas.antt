@@ -1,15 +1,11 @@
 -- What a read, a piece and the hang-up add to what was pumped.
-use Rattle.std.specs.Prelude.{◌≡◌, ℕ, ◌+◌, ◌≤◌, All, Bool, false, true, List, [], ◌∷◌, ◌++◌, length, Option, refl}
-use Rattle.std.proofs.Common.{arith, sym, ap, ◌∙◌, append-nil, subst, length-append, lit≤}
-use Rattle.std.proofs.lemmas.Grind.{common_steps, flat_map-append}
+use Rattle.connections.proofs.Names.{◌≡◌, ℕ, ◌+◌, ◌≤◌, All, Bool, false, true, List, [], ◌∷◌, ◌++◌, length, Option, refl, arith, sym, ap, ◌∙◌, append-nil, subst, length-append, lit≤, common_steps, flat_map-append, Consumes, Tells}
 use Rattle.std.proofs.lemmas.List.{nil_from_length}
 use Rattle.std.proofs.lemmas.List.Elements.{All-nil, All-cons, All-append, All-head, All-tail}
-use Rattle.std.specs.Io.KnownBytes.{Consumes}
 use Rattle.connections.specs.declared.inlet.Fed.{Fed}
 use Rattle.connections.specs.declared.inlet.Fed.TheVariants.{Go, Stop, Full}
 use Rattle.connections.specs.declared.inlet.Heard.{Heard}
 use Rattle.connections.specs.declared.inlet.Heard.TheVariants.{Piece}
-use Rattle.connections.specs.Told.{Tells}
 use Rattle.connections.specs.Pumps.{Pumps, Counts, IsRead, taken_of, ends_by, answered, joined}
 use Rattle.std.proofs.KnownBytes.{Consumes-nil, Consumes-trans}
 use Rattle.connections.proofs.TellLemmas.{Tells-refl, Tells-trans}

@@ -1,8 +1,5 @@
 -- What is told goes on.
-use Rattle.std.specs.Prelude.{List, [], ◌++◌, Option, Some, None}
-use Rattle.std.proofs.Common.{arith, sym, append-nil}
-use Rattle.std.proofs.lemmas.Grind.{common_steps}
-use Rattle.connections.specs.Told.{Tells}
+use Rattle.connections.proofs.Names.{List, [], ◌++◌, Option, Some, None, arith, sym, append-nil, common_steps, Tells}
 
 -- nothing was told
 pub Tells-refl : {A : Type 0} (a : Option (List A)) → Tells a a []

@@ -1,18 +1,13 @@
 -- What one reply, and the end, add to what was written.
-use Rattle.std.specs.Prelude.{◌≡◌, ℕ, Bool, true, false, ◌+◌, ◌-◌, ◌<◌, zero, suc, List, [], ◌∷◌, ◌++◌, length, take, drop, map, flat_map, Option, refl, ⊤}
+use Rattle.connections.proofs.Names.{◌≡◌, ℕ, Bool, true, false, ◌+◌, ◌-◌, ◌<◌, zero, suc, List, [], ◌∷◌, ◌++◌, length, take, drop, map, flat_map, Option, refl, ⊤, arith, sym, ap, ◌∙◌, append-nil, append_assoc, subst, length-append, common_steps, flat_map-append, Appends, Tells, End, NotYet, IsOver, Unwritten, CutShort, Writes, WritesOut, goes_on, bytes_of, begun, part, told_last, calls_of}
 use Rattle.std.specs.List.{range_with_len}
-use Rattle.std.proofs.Common.{arith, sym, ap, ◌∙◌, append-nil, append_assoc, subst, length-append}
 use Rattle.std.proofs.Math.Seq.{take-add}
 use Rattle.std.proofs.lemmas.List.{take_all, length-drop, map-append}
-use Rattle.std.proofs.lemmas.Grind.{common_steps, flat_map-append}
-use Rattle.std.specs.Io.KnownBytes.{Appends}
 use Rattle.gateway_model.specs.declared.id.CallId.{CallId}
 use Rattle.gateway_model.specs.Past.{call_id}
 use Rattle.gateway_theory.specs.Replies.{ReplyValue}
 use Rattle.connections.specs.declared.queue.Handed.{Handed}
 use Rattle.connections.specs.declared.queue.Handed.TheVariants.{Reply, Over}
-use Rattle.connections.specs.Told.{Tells}
-use Rattle.connections.specs.Writes.{End, NotYet, IsOver, Unwritten, CutShort, Writes, WritesOut, goes_on, bytes_of, begun, part, told_last, calls_of}
 use Rattle.std.proofs.KnownBytes.{Appends-nil, Appends-trans}
 use Rattle.connections.proofs.TellLemmas.{Tells-refl, Tells-trans}
 

@@ -1,12 +1,7 @@
 -- Which addresses are a job's.
-use Rattle.std.proofs.Common.{◌≡◌, ℕ, Bool, true, false, List, [], ◌∷◌, ◌++◌, Option, None, Some, sym, subst, ap, inl, inr, ⊎_elim, arith}
-use Rattle.std.specs.Prelude.{option_to_list}
-use Rattle.std.specs.List.{Contains}
+use Rattle.gateway_loop.proofs.Words.{◌≡◌, ℕ, Bool, true, false, List, [], ◌∷◌, ◌++◌, Option, None, Some, sym, subst, inl, inr, ⊎_elim, arith, option_to_list, Contains, SocketAddr, Contains-append_cases, Contains-append_left, Contains-append_right, Contains-push_cases, IsAddressOf, AddressesValue, AreOf, HasParsed, addresses_value, next_of}
+use Rattle.std.proofs.lemmas.Bool.Decides.{nat_tests}
 use Rattle.std.specs.Net.Grammar.{IsSocketText}
-use Rattle.std.specs.declared.net.socket_addr.SocketAddr.{SocketAddr}
-use Rattle.std.proofs.lemmas.List.Elements.{Contains-append_cases, Contains-append_left, Contains-append_right, Contains-push, Contains-push_cases}
-use Rattle.loop_model.specs.Asking.{IsAddressOf}
-use Rattle.gateway_loop.specs.Addresses.{AddressesValue, AreOf, HasParsed, addresses_value, next_of}
 
 none_contains : (a : SocketAddr) → Contains [] a → ⊥
 none_contains a c = let lt = c.1 in omega (arith, lt)
@@ -22,9 +17,7 @@ taken_are text x y o next same are a c =
     (are a (subst (λ (l : List SocketAddr). Contains l a) (sym next) (Contains-append_right (option_to_list o) (next_of y) a c)))
 
 pub taken_is : (text : List ℕ) (x y : AddressesValue) (a : SocketAddr) → next_of x ≡ a ∷ next_of y → y.found ≡ x.found → AreOf text x → IsAddressOf text y.found a
-taken_is text x y a next same are =
-    subst (λ (found : List SocketAddr). IsAddressOf text found a) (sym same)
-    (are a (subst (λ (l : List SocketAddr). Contains l a) (sym next) (Contains-append_left (a ∷ []) (next_of y) a (Contains-push [] a))))
+taken_is text x y a next same are = search arith
 
 -- the text was that of an address
 pub parsed_are : (text : List ℕ) (x y : AddressesValue) (a : SocketAddr) → IsSocketText text a → y ≡ addresses_value (Some a) x.others x.found → AreOf text x → AreOf text y
@@ -39,8 +32,7 @@ parsed_are text x y a spells is are = subst (λ (v : AddressesValue). AreOf text
 
 -- more are found
 pub more_of : (text : List ℕ) (found more : List SocketAddr) (a : SocketAddr) → IsAddressOf text found a → IsAddressOf text (found ++ more) a
-more_of text found more a is =
-    ⊎_elim (λ (spells : IsSocketText text a). inl spells) (λ (there : Contains found a). inr (Contains-append_left found more a there)) is
+more_of text found more a is = grind (arith, nat_tests, Contains-append_left)
 
 pub found_are : (text : List ℕ) (x y : AddressesValue) (more : List SocketAddr) → y ≡ addresses_value x.first more (x.found ++ more) → AreOf text x → AreOf text y
 found_are text x y more is are = subst (λ (v : AddressesValue). AreOf text v) (sym is) all
@@ -58,5 +50,4 @@ tried_are text own true x y same p are = parsed_are text x y p.0 (subst (λ (t :
 tried_are text own false x y same p are = subst (λ (v : AddressesValue). AreOf text v) (sym p) are
 
 pub tried_found : (own : List ℕ) (b : Bool) (x y : AddressesValue) → HasParsed own b x y → y.found ≡ x.found
-tried_found own true x y p = ap (λ (v : AddressesValue). v.found) p.2
-tried_found own false x y p = ap (λ (v : AddressesValue). v.found) p
+tried_found own b x y h4 = grind (arith, nat_tests)

@@ -1,33 +1,10 @@
 -- What each step makes of the jobs that are asked for, and of those that ended.
-use Rattle.std.proofs.Common.{◌≡◌, ◌≢◌, ◌⊎◌, ℕ, zero, suc, ◌+◌, Bool, false, cond, List, [], ◌∷◌, ◌++◌, All, map, Option, None, Some, refl, sym, ap, ◌∙◌, subst, arith, append_assoc, inl, inr, ⊎_elim}
-use Rattle.std.specs.Prelude.{count_by, sum_by, option_map, slice_index_or}
-use Rattle.std.specs.Option.{option_map_or}
-use Rattle.std.proofs.lemmas.Bool.{cases_eq}
-use Rattle.std.proofs.lemmas.List.{append-nil, map-append}
-use Rattle.std.proofs.lemmas.List.Elements.{All-nil, All-push}
-use Rattle.std.proofs.lemmas.List.Sums.{sum_by-append, sum_by-cons}
-use Rattle.connect_codec.specs.declared.answer.Outcome.{Outcome}
-use Rattle.gateway_model.specs.Job.{JobValue}
-use Rattle.gateway_model.specs.Queue.{IsPrefixOf}
-use Rattle.gateway_theory.specs.Task.{HandedJob}
-use Rattle.slab.specs.Slab.{Slab, Updates}
-use Rattle.loop_model.specs.Asking.{AskingValue, BeginsRequest, EndedValue, IsFair, StreamValue, ended_value}
-use Rattle.loop_model.specs.Explained.{LoopValue}
-use Rattle.loop_model.specs.Growing.{HasTicked}
-use Rattle.loop_model.specs.Whole.{AsksFairly, AsksOn, ContinuesLoop, GivesUpStream, HasEndedSince, KeepsStream, WholeLoop, asked_at, count_asked}
-use Rattle.gateway_loop.specs.Asking.{AskingState, asked_for}
-use Rattle.gateway_loop.specs.Clients.{HandsNothing, Onward}
-use Rattle.gateway_loop.specs.Loop.{Goes, whole_loop}
-use Rattle.std.specs.declared.net.socket_addr.SocketAddr.{SocketAddr}
+use Rattle.gateway_loop.proofs.Words.{◌≡◌, ◌≢◌, ◌⊎◌, ℕ, zero, suc, ◌+◌, Bool, false, cond, List, [], ◌∷◌, ◌++◌, All, map, Option, None, Some, refl, sym, ap, ◌∙◌, subst, arith, append_assoc, inl, inr, ⊎_elim, count_by, sum_by, option_map, slice_index_or, option_map_or, cases_eq, map-append, All-push, sum_by-append, sum_by-cons, Outcome, JobValue, IsPrefixOf, HandedJob, Slab, Updates, AskingValue, BeginsRequest, EndedValue, IsFair, StreamValue, ended_value, LoopValue, HasTicked, AsksFairly, AsksOn, ContinuesLoop, GivesUpStream, HasEndedSince, KeepsStream, WholeLoop, asked_at, count_asked, AskingState, asked_for, HandsNothing, Onward, Goes, whole_loop, SocketAddr}
+use Rattle.std.proofs.lemmas.Bool.Decides.{nat_tests}
+use Rattle.std.proofs.lemmas.List.{append-nil}
 use Rattle.gateway_loop.proofs.GrowLemmas as grow
+use Rattle.gateway_loop.proofs.Places.{Put, put_back}
 use Rattle.gateway_loop.proofs.SumLemmas.{sum_map, sum_put}
-
--- ---- places
-
--- what stands in one place is new
-pub record Put (old new : List (Option AskingState)) (i : ℕ) (o : Option AskingState) : Type 0 where
-  pub here : slice_index_or new i None ≡ o
-  pub there : (j : ℕ) → j ≢ i → slice_index_or new j None ≡ slice_index_or old j None
 
 -- ---- what only grows
 
@@ -41,11 +18,7 @@ asks_same x = record {
 module _ (x y z : AskingValue) where
   -- where the one has no other peer than the next, and that none than a third
   same_peer : {o : Option SocketAddr} → (x.peer ≡ None) ⊎ (y.peer ≡ x.peer) → (y.peer ≡ None) ⊎ (o ≡ y.peer) → (x.peer ≡ None) ⊎ (o ≡ x.peer)
-  same_peer p q =
-      ⊎_elim
-      (λ (none : x.peer ≡ None). inl none)
-      (λ (same : y.peer ≡ x.peer). ⊎_elim (λ (none : y.peer ≡ None). inl (sym same ∙ none)) (λ (is : _ ≡ y.peer). inr (is ∙ same)) q)
-      p
+  same_peer p q = search arith
 
   keeps_keeps : KeepsStream x y → KeepsStream y z → KeepsStream x z
   keeps_keeps k l = record {
@@ -70,14 +43,7 @@ module _ (x y z : AskingValue) where
   gives_keeps g k = record { last = g.last; others = g.others; tried_are = k.tried ∙ g.tried_are; peer = g.peer; given = g.given; got = g.got }
 
   gives_gives : GivesUpStream x y → GivesUpStream y z → GivesUpStream x z
-  gives_gives g h = record {
-    last = g.last;
-    others = g.others ++ h.last ∷ h.others;
-    tried_are = h.tried_are ∙ ap (λ (t : List StreamValue). t ++ h.last ∷ h.others) g.tried_are ∙ append_assoc x.tried (g.last ∷ g.others) (h.last ∷ h.others);
-    peer = g.peer;
-    given = g.given;
-    got = g.got;
-  }
+  gives_gives g h = grind (arith, nat_tests, append_assoc)
 
   asks_then : AsksOn x y → AsksOn y z → AsksOn x z
   asks_then a b = record {
@@ -91,15 +57,7 @@ module _ (x y z : AskingValue) where
 
 module _ (u v w : WholeLoop) (y : AskingValue) where
   since_then : HasEndedSince u v y → IsPrefixOf v.ended w.ended → HasEndedSince u w y
-  since_then e p =
-      let own = ended_value y e.outcome in record {
-        before = e.before;
-        outcome = e.outcome;
-        after = e.after ++ p.0;
-        ended_are =
-            p.1 ∙ ap (λ (t : List EndedValue). t ++ p.0) e.ended_are ∙ append_assoc u.ended (e.before ++ own ∷ e.after) p.0
-            ∙ ap (λ (t : List EndedValue). u.ended ++ t) (append_assoc e.before (own ∷ e.after) p.0);
-      }
+  since_then e p = grind (arith, nat_tests, append_assoc)
 
   then_since : IsPrefixOf u.ended v.ended → HasEndedSince v w y → HasEndedSince u w y
   then_since p e =
@@ -130,10 +88,18 @@ continues_then u v w a b = record {
 }
 
 pub onward : (v w : WholeLoop) → ContinuesLoop v w → Goes v w
-onward v w c u a = continues_then u v w a c
+onward v w c = record { on = λ u a. continues_then u v w a c }
+
+pub goes_same : (v : WholeLoop) → Goes v v
+goes_same v = record { on = λ u a. a }
 
 pub goes_then : (u v w : WholeLoop) → Goes u v → Goes v w → Goes u w
-goes_then u v w p q a c = q a (p a c)
+goes_then u v w p q = record { on = λ a c. q.on a (p.on a c) }
+
+pub goes_on : (v w : WholeLoop) → Goes v w → ContinuesLoop v w
+goes_on v w p = p.on v (continues_same v)
+
+pub ruleset going = (goes_same, goes_then, goes_on)
 
 abbrev show_slot : Option AskingState → Option AskingValue
 show_slot o = option_map asked_for o
@@ -150,13 +116,12 @@ none_asked : (b : AskingValue) → None ≡ Some b → ⊥
 none_asked b e = cc
 
 -- the clients' side went on, and the exchanges are the same
-pub goes_side : (v w : LoopValue) (asking : List (Option AskingState)) (ended : List (AskingState × Option Outcome)) → Onward v w
-    → Goes (whole_loop v asking ended) (whole_loop w asking ended)
-goes_side v w asking ended o =
-    onward (whole_loop v asking ended) (whole_loop w asking ended) record {
-      side = o v (grow.continues_same v);
-      asking = λ i x is. (x, inl is, asks_same x);
-      ended = grow.begins_same (whole_loop v asking ended).ended;
+pub goes_side : (v w : WholeLoop) → Onward v.side w.side → w.asking ≡ v.asking → w.ended ≡ v.ended → Goes v w
+goes_side v w o asking ended =
+    onward v w record {
+      side = o.on v.side (grow.continues_same v.side);
+      asking = λ i x is. (x, inl (ap (λ l. asked_at i l) asking ∙ is), asks_same x);
+      ended = grow.begins_is v.ended w.ended ended;
     }
 
 module _ (old new : List (Option AskingState)) (i : ℕ) where
@@ -168,8 +133,7 @@ module _ (old new : List (Option AskingState)) (i : ℕ) where
   -- what stood in that place
   stood_at : (o : Option AskingState) (j : ℕ) (z : AskingValue) → slice_index_or old i None ≡ o → j ≡ i → asked_at j (map (λ (s : Option AskingState). show_slot s) old) ≡ Some z
       → show_slot o ≡ Some z
-  stood_at o j z was same is =
-      ap (λ (s : Option AskingState). show_slot s) (sym was ∙ ap (λ (n : ℕ). slice_index_or old n None) (sym same)) ∙ sym (shown_at old j) ∙ is
+  stood_at o j z was same is = grind (arith, nat_tests, shown_at)
 
   stands_at : (y : AskingState) (j : ℕ) → Put old new i (Some y) → j ≡ i → asked_at j (map (λ (s : Option AskingState). show_slot s) new) ≡ Some (asked_for y)
   stands_at y j put same = shown_at new j ∙ ap (λ (s : Option AskingState). show_slot s) (ap (λ (n : ℕ). slice_index_or new n None) same ∙ put.here)
@@ -194,7 +158,7 @@ module _ (old new : List (Option AskingState)) (i : ℕ) where
       → Put old new i (Some y) → Goes (whole_loop v old ended) (whole_loop w new ended)
   goes_begin v w ended y o free put =
       onward (whole_loop v old ended) (whole_loop w new ended) record {
-        side = o v (grow.continues_same v);
+        side = o.on v (grow.continues_same v);
         asking = λ j z is.
             ⊎_elim
             (λ (same : j ≡ i). absurd (none_asked z (stood_at None j z free same is)))
@@ -211,7 +175,7 @@ module _ (old new : List (Option AskingState)) (i : ℕ) where
       let show : AskingState × Option Outcome → EndedValue = λ (d : AskingState × Option Outcome). ended_value (asked_for d.0) d.1 in
       let more : map show ended' ≡ map show ended ++ show (y, end) ∷ [] = ap (map show) is_now ∙ map-append show ended ((y, end) ∷ []) in
       onward (whole_loop v old ended) (whole_loop w new ended') record {
-        side = o v (grow.continues_same v);
+        side = o.on v (grow.continues_same v);
         asking = λ j z is.
             ⊎_elim
             (λ (same : j ≡ i).
@@ -222,9 +186,7 @@ module _ (old new : List (Option AskingState)) (i : ℕ) where
       }
 
 pub ticked_on : (u v w : WholeLoop) → HasTicked u.side v.side → Goes v w → HasTicked u.side w.side
-ticked_on u v w t o =
-    let p = (o v (continues_same v)).side.told in
-    (t.0, t.1 ++ p.0, p.1 ∙ ap (λ (l : List ℕ). l ++ p.0) t.2 ∙ append_assoc u.side.told (t.0 ∷ t.1) p.0)
+ticked_on u v w t o = grind (arith, nat_tests, goes_on, append_assoc)
 
 pub ticked_same : (u v w : WholeLoop) → HasTicked u.side v.side → w.side.told ≡ v.side.told → HasTicked u.side w.side
 ticked_same u v w t is = (t.0, t.1, is ∙ t.2)
@@ -238,46 +200,30 @@ abbrev one_asked : (JobValue → Bool) → Option AskingState → ℕ
 one_asked p o = cond (is_asked p o) 1 0
 
 one_shown : (p : JobValue → Bool) (o : Option AskingState) → cond (option_map_or (λ (x : AskingValue). p x.job) (option_map asked_for o) false) 1 0 ≡ one_asked p o
-one_shown p None = refl
-one_shown p (Some x) = refl
+one_shown p o = grind (arith, nat_tests)
 
 sum_alike : {A : Type 0} (f g : A → ℕ) → ((x : A) → f x ≡ g x) → (xs : List A) → sum_by f xs ≡ sum_by g xs
 sum_alike f g same [] = refl
-sum_alike f g same (x ∷ xs) =
-    sum_by-cons f x xs ∙ ap (λ n. n + sum_by f xs) (same x) ∙ ap (λ n. g x + n) (sum_alike f g same xs) ∙ sym (sum_by-cons g x xs)
+sum_alike f g same (x ∷ xs) = search (arith, sum_alike f g same xs)
 
 shown_count : (p : JobValue → Bool) (slots : List (Option AskingState))
     → count_asked p (map (λ (o : Option AskingState). option_map asked_for o) slots) ≡ sum_by (one_asked p) slots
-shown_count p slots =
-    sum_map (λ (o : Option AskingValue). cond (option_map_or (λ (x : AskingValue). p x.job) o false) 1 0) (λ (o : Option AskingState). option_map asked_for o) slots
-    ∙ sum_alike (λ (o : Option AskingState). cond (option_map_or (λ (x : AskingValue). p x.job) (option_map asked_for o) false) 1 0) (one_asked p) (one_shown p) slots
-
-pub put_one : (s t : Slab AskingState) (i : ℕ) (o : Option AskingState) → Updates s t i o → Put s.slots t.slots i o
-put_one s t i o u = record { here = u.changed; there = u.others }
-
-pub put_back : (s t u : Slab AskingState) (i key : ℕ) (y : AskingState) → Updates s t i None → t.vacant_key ≡ i → key ≡ t.vacant_key → Updates t u key (Some y)
-    → Put s.slots u.slots i (Some y)
-put_back s t u i key y out next is back =
-    let same : key ≡ i = is ∙ next in
-    let again : Updates t u i (Some y) = subst (λ (n : ℕ). Updates t u n (Some y)) same back in
-    record { here = again.changed; there = λ j other. again.others j other ∙ out.others j other }
+shown_count p slots = grind (arith, nat_tests, sum_map, sum_alike, one_shown)
 
 count_put : (p : JobValue → Bool) (old new : List (Option AskingState)) (i : ℕ) (o n : Option AskingState) → slice_index_or old i None ≡ o → Put old new i n
     → sum_by (one_asked p) new + one_asked p o ≡ sum_by (one_asked p) old + one_asked p n
-count_put p old new i o n was put =
-    ap (λ (t : Option AskingState). sum_by (one_asked p) new + one_asked p t) (sym was)
-    ∙ sum_put (one_asked p) refl old new i put.there ∙ ap (λ (t : Option AskingState). sum_by (one_asked p) old + one_asked p t) put.here
+count_put p old new i o n was put = grind (arith, nat_tests, sum_put)
 
 -- ---- what is kept
 
 -- the exchanges are the same
-pub keeps_asking : (v w : LoopValue) (asking : List (Option AskingState)) (ended : List (AskingState × Option Outcome)) → HandsNothing v w
-    → AsksFairly (whole_loop v asking ended) → AsksFairly (whole_loop w asking ended)
-keeps_asking v w asking ended none a = record {
-  results = none.no_result ∙ a.results;
-  fair = a.fair;
-  begun = a.begun;
-  jobs = λ p. ap (count_by p) none.no_job ∙ a.jobs p;
+pub keeps_asking : (v w : WholeLoop) → HandsNothing v.side w.side → w.asking ≡ v.asking → w.ended ≡ v.ended → AsksFairly v → AsksFairly w
+keeps_asking v w none asking ended a = record {
+  results = none.no_result ∙ a.results ∙ ap (map (λ (e : EndedValue). (e.asking.job, e.outcome))) (sym ended);
+  fair = subst (All IsFair) (sym ended) a.fair;
+  begun = λ i x is. a.begun i x (ap (λ l. asked_at i l) (sym asking) ∙ is);
+  jobs = λ p. ap (count_by p) none.no_job ∙ a.jobs p ∙ ap (λ l. count_by (λ (e : EndedValue). p e.asking.job) l + count_asked p v.asking) (sym ended)
+      ∙ ap (λ l. count_by (λ (e : EndedValue). p e.asking.job) w.ended + count_asked p l) (sym asking);
 }
 
 -- where one place changed, each begins its request if what stands there does
@@ -307,6 +253,16 @@ keeps_put v old new ended i x y was job put begun a = record {
       let is : sum_by (one_asked p) new ≡ sum_by (one_asked p) old = omega (arith, count, same) in
       a.jobs p ∙ ap (λ n. count_by (λ (e : EndedValue). p e.asking.job) (whole_loop v old ended).ended + n) (shown_count p old ∙ sym is ∙ sym (shown_count p new));
 }
+
+-- one of them was taken out, went on with its job, and was put back
+module _ (v : LoopValue) (ended : List (AskingState × Option Outcome)) {s t u : Slab AskingState} {i key : ℕ} {x y : AskingState} where
+  pub goes_back : Updates s t i None → t.vacant_key ≡ i → key ≡ t.vacant_key → Updates t u key (Some y) → slice_index_or s.slots i None ≡ Some x
+      → AsksOn (asked_for x) (asked_for y) → Goes (whole_loop v s.slots ended) (whole_loop v u.slots ended)
+  goes_back out next is back was on = goes_put s.slots u.slots i v ended x y was (put_back s t u i key y out next is back) on
+
+  pub keeps_back : Updates s t i None → t.vacant_key ≡ i → key ≡ t.vacant_key → Updates t u key (Some y) → slice_index_or s.slots i None ≡ Some x
+      → y.job ≡ x.job → BeginsRequest (asked_for y) → AsksFairly (whole_loop v s.slots ended) → AsksFairly (whole_loop v u.slots ended)
+  keeps_back out next is back was job begun a = keeps_put v s.slots u.slots ended i x y was job (put_back s t u i key y out next is back) begun a
 
 -- where no job waits, nothing was taken
 pub takes_none : (v w : LoopValue) (old new : List (Option AskingState)) (ended : List (AskingState × Option Outcome))
@@ -368,9 +324,4 @@ ends_one v w old new ended ended' i x y o j results same was job own put more fa
     }
 
 pub starts_fair : (v : LoopValue) → v.results ≡ [] → v.handed ≡ [] → AsksFairly (whole_loop v [] [])
-starts_fair v no_results none_handed = record {
-  results = no_results;
-  fair = All-nil IsFair;
-  begun = λ i x is. absurd (none_asked x is);
-  jobs = λ p. ap (count_by p) none_handed;
-}
+starts_fair v no_results none_handed = search arith

@@ -1,22 +1,13 @@
 -- What a job that is asked for has begun.
-use Rattle.std.proofs.Common.{◌≡◌, ℕ, Bool, true, false, List, [], ◌∷◌, ◌++◌, All, map, Option, None, Some, refl, sym, ap, ◌∙◌, subst, append-nil, inl, inr}
-use Rattle.std.specs.Prelude.{is_some}
-use Rattle.std.proofs.lemmas.List.Elements.{All-nil, All-push}
-use Rattle.std.proofs.lemmas.List.{map-append}
+use Rattle.gateway_loop.proofs.Words.{◌≡◌, ℕ, Bool, true, false, List, [], ◌∷◌, ◌++◌, All, map, Option, None, Some, refl, sym, ap, ◌∙◌, subst, is_some, All-nil, All-push, map-append, HandedJob, BeginsRequest, IsAddressOf, IsUntouched, StreamValue, request_of, stream_value, SocketAddr, AddressesValue, AreOf, addresses_value, next_of, Asks, AskingState, AttemptValue, HadStream, HasBegun, HasEnded, HasGrown, IsUnsent, IsUntouchedAttempt, asked_for, asking_state, attempt_value}
+use Rattle.std.proofs.lemmas.Bool.Decides.{nat_tests}
+use Rattle.std.proofs.Common.{arith}
 use Rattle.http_pieces.specs.ReplyReader.{HasReadReply}
 use Rattle.branch_exchange.specs.declared.exchange_end.Loss.{Loss}
 use Rattle.branch_exchange.specs.declared.exchange_end.ExchangeEnd.{ExchangeEnd}
 use Rattle.branch_exchange.specs.declared.exchange_end.ExchangeEnd.TheVariants as ends
 use Rattle.http_pieces.specs.declared.reply.HttpReply.{HttpReply}
-use Rattle.gateway_theory.specs.Task.{HandedJob}
-use Rattle.gateway_model.specs.Queue.{IsPrefixOf}
-use Rattle.loop_model.specs.Asking.{BeginsRequest, IsAddressOf, IsUntouched, StreamValue, request_of, stream_value}
-use Rattle.loop_model.specs.Whole.{AsksOn}
-use Rattle.std.specs.declared.net.socket_addr.SocketAddr.{SocketAddr}
-use Rattle.gateway_loop.specs.Addresses.{AddressesValue, AreOf, addresses_value, next_of}
-use Rattle.gateway_loop.specs.Asking.{Asks, AskingState, AttemptValue, HadStream, HasBegun, HasEnded, HasGrown, IsUnsent, IsUntouchedAttempt, asked_for, asking_state, attempt_value}
 use Rattle.gateway_loop.proofs.AddressLemmas.{new_are, taken_are, taken_is}
-use Rattle.gateway_loop.proofs.GrowLemmas.{begins_then}
 
 no_reply : (reply : HttpReply) → ends.NoMemory ≡ ends.Reply reply → ⊥
 no_reply reply e = cc
@@ -28,8 +19,7 @@ some_none : (a : ExchangeEnd) → Some a ≡ None → ⊥
 some_none a e = cc
 
 none_of : (end : Option ExchangeEnd) → is_some end ≡ false → end ≡ None
-none_of None off = refl
-none_of (Some e) off = absurd (let f : ⊥ = cc in f)
+none_of end h1 = grind (arith, nat_tests)
 
 no_peer : (a : SocketAddr) → None ≡ Some a → ⊥
 no_peer a e = cc
@@ -75,13 +65,7 @@ module _ (job : HandedJob) (addresses : AddressesValue) (x : AttemptValue) where
 
 -- where nothing was written since it is lost
 pub lost_ends : (request : List ℕ) (x y : AttemptValue) (loss : Loss) → y.got ≡ x.got → Asks request x → HasEnded request (ends.Lost loss) y
-lost_ends request x y loss same a = record {
-  prefix = (x.exchange.left, sym a.sends ∙ ap (λ (t : List ℕ). t ++ x.exchange.left) (sym same));
-  whole = λ reply is. absurd (not_lost reply is);
-}
-  where
-    not_lost : (reply : HttpReply) → ends.Lost loss ≡ ends.Reply reply → ⊥
-    not_lost reply e = cc
+lost_ends request x y loss same a = search arith
 
 -- its addresses changed
 pub begun_addresses : (job : HandedJob) (x y : AddressesValue) (s : AttemptValue) (end : Option ExchangeEnd) (items : List (StreamValue × Bool))
@@ -142,55 +126,4 @@ noted_untouched items later before s is had touched all =
 
 -- what was written of it begins its request
 pub begins_request : (x : AskingState) → HasBegun x → BeginsRequest (asked_for x)
-begins_request x b = record { untouched = b.untouched; prefix = by_it x.end refl; addressed = b.addressed }
-  where
-    by_it : (end : Option ExchangeEnd) → x.end ≡ end → IsPrefixOf x.attempt.got (request_of x.job.job)
-    by_it None is = (x.attempt.exchange.left, sym (b.asks is).sends)
-    by_it (Some end) is = (b.ended end is).prefix
-
--- ---- what only grows
-
-pub grown_same : (x y : AttemptValue) → y.given ≡ x.given → y.got ≡ x.got → y.peer ≡ x.peer → HasGrown x y
-grown_same x y given got peer = (([], given ∙ sym (append-nil x.given)), ([], got ∙ sym (append-nil x.got)), peer)
-
-pub grown_then : (x y z : AttemptValue) → HasGrown x y → HasGrown y z → HasGrown x z
-grown_then x y z a b = (begins_then x.given y.given z.given a.0 b.0, begins_then x.got y.got z.got a.1 b.1, b.2 ∙ a.2)
-
--- it goes over the same stream
-pub asks_on : (x y : AskingState) → y.job ≡ x.job → IsPrefixOf x.addresses.found y.addresses.found → y.tried ≡ x.tried → HasGrown x.attempt y.attempt
-    → AsksOn (asked_for x) (asked_for y)
-asks_on x y job found tried grown = record {
-  job = ap (λ (j : HandedJob). j.job) job;
-  found = found;
-  streams = inl record { tried = tried; peer = inr grown.2; given = grown.0; got = grown.1 };
-}
-
--- .. over its first, before which nothing was written or read
-pub asks_first : (x y : AskingState) → y.job ≡ x.job → IsPrefixOf x.addresses.found y.addresses.found → y.tried ≡ x.tried → x.attempt.peer ≡ None
-    → IsUntouchedAttempt x.attempt → AsksOn (asked_for x) (asked_for y)
-asks_first x y job found tried alone fresh = record {
-  job = ap (λ (j : HandedJob). j.job) job;
-  found = found;
-  streams = inl record {
-    tried = tried;
-    peer = inl alone;
-    given = (y.attempt.given, sym (ap (λ (t : List ℕ). t ++ y.attempt.given) fresh.1));
-    got = (y.attempt.got, sym (ap (λ (t : List ℕ). t ++ y.attempt.got) fresh.0));
-  };
-}
-
--- .. over another
-pub asks_over : (x y : AskingState) (before : StreamValue) → y.job ≡ x.job → IsPrefixOf x.addresses.found y.addresses.found → y.tried ≡ x.tried ++ before ∷ []
-    → HadStream before x.attempt → AsksOn (asked_for x) (asked_for y)
-asks_over x y before job found tried had = record {
-  job = ap (λ (j : HandedJob). j.job) job;
-  found = found;
-  streams = inr record {
-    last = before;
-    others = [];
-    tried_are = tried;
-    peer = inr had.2;
-    given = ([], had.0 ∙ sym (append-nil x.attempt.given));
-    got = ([], had.1 ∙ sym (append-nil x.attempt.got));
-  };
-}
+begins_request x b = search arith

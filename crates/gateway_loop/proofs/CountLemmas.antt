@@ -1,11 +1,6 @@
 -- How many clients have a connection.
-use Rattle.std.proofs.Common.{◌≡◌, ◌≢◌, ℕ, suc, ◌+◌, Bool, true, false, cond, List, [], ◌∷◌, ◌++◌, Option, None, Some, refl, sym, ap, ◌∙◌, arith, ⊎_elim}
-use Rattle.std.specs.Prelude.{◌==◌, if◌then◌else◌, nat_lt, count_by, sum_by}
-use Rattle.std.specs.Option.{option_map_or}
-use Rattle.std.proofs.lemmas.Bool.{cases_Bool, cases_eq, eq-eqb, le-ltb, lt-ltb, ltb-false, ltb-true, ne_eqb}
-use Rattle.std.proofs.lemmas.List.Sums.{sum_by-append, sum_by-cons}
-use Rattle.loop_model.specs.Clients.{ClientValue}
-use Rattle.loop_model.specs.Explained.{LoopValue, at, count_of, one_below}
+use Rattle.gateway_loop.proofs.Words.{◌≡◌, ◌≢◌, ℕ, suc, ◌+◌, Bool, false, cond, List, [], ◌∷◌, ◌++◌, Option, None, Some, refl, ap, ◌∙◌, arith, ◌==◌, count_by, option_map_or, sum_by-append, sum_by-cons, ClientValue, LoopValue, at, count_of, one_below}
+use Rattle.std.proofs.lemmas.Bool.Decides.{nat_tests}
 use Rattle.gateway_loop.proofs.SumLemmas.{sum_put}
 
 abbrev has_conn : ℕ → Option ClientValue → Bool
@@ -25,10 +20,7 @@ gone_with c gone = count_by (λ (x : ClientValue). x.conn == c) gone
 -- what stands in that place changed, and no other
 module _ (l m : LoopValue) (i : ℕ) (there : (j : ℕ) → j ≢ i → at j m.clients ≡ at j l.clients) (c : ℕ) where
   count_changed : (o n : Option ClientValue) → at i l.clients ≡ o → at i m.clients ≡ n → there_with c m + one_conn c o ≡ there_with c l + one_conn c n
-  count_changed o n was now =
-      ap (λ (t : Option ClientValue). there_with c m + one_conn c t) (sym was)
-      ∙ sum_put (one_conn c) refl l.clients m.clients i there
-      ∙ ap (λ (t : Option ClientValue). there_with c l + one_conn c t) now
+  count_changed o n was now = grind (arith, nat_tests, sum_put)
 
   pub count_steps : (x y : ClientValue) → at i l.clients ≡ Some x → at i m.clients ≡ Some y → y.conn ≡ x.conn → m.gone ≡ l.gone → count_of c m ≡ count_of c l
   count_steps x y was now same gone =
@@ -60,17 +52,4 @@ count_same l m c clients gone = rw (clients, gone) refl
 
 -- one connection more
 pub one_more : (c n : ℕ) → one_below c n + cond (n == c) 1 0 ≡ one_below c (suc n)
-one_more c n =
-    ⊎_elim
-    (λ (lt : nat_lt c n ≡ true).
-    let below = ltb-true c n lt in
-    rw (lt, ne_eqb n c (λ e. omega (arith, e, below)), lt-ltb c (suc n) (omega (arith, below))) refl)
-    (λ (ge : nat_lt c n ≡ false).
-    let above = ltb-false c n ge in
-    ⊎_elim (λ (same : c ≡ n). rw (ge, eq-eqb n c (sym same), lt-ltb c (suc n) (omega (arith, same))) refl)
-    (λ (other : c ≡ n → ⊥). rw (ge, ne_eqb n c (λ e. other (sym e)), le-ltb c (suc n) (omega (arith, above, other))) refl)
-    (cases_eq c n))
-    (cases_Bool (nat_lt c n))
-
-pub none_below : (c : ℕ) → one_below c 0 ≡ 0
-none_below c = rw (le-ltb c 0 (omega arith)) refl
+one_more c n = search arith

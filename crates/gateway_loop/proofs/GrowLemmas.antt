@@ -1,22 +1,7 @@
 -- What only grows.
-use Rattle.std.proofs.Common.{◌≡◌, ◌≢◌, ℕ, List, [], ◌∷◌, ◌++◌, map, Option, None, Some, refl, sym, ap, ◌∙◌, subst, append_assoc, append-nil, inl, inr, ⊎_elim, Bool, true, false, cond, arith, length}
-use Rattle.std.specs.Prelude.{◌+◌, count_by}
-use Rattle.std.specs.Option.{option_map_or}
-use Rattle.std.specs.List.{Contains}
-use Rattle.std.proofs.lemmas.Bool.{cases_eq}
-use Rattle.std.proofs.lemmas.List.Elements.{Contains-append_left, Contains-push}
-use Rattle.std.proofs.lemmas.List.{map-append}
-use Rattle.std.proofs.lemmas.List.Sums.{sum_by-cons}
-use Rattle.slab.specs.Slab.{entries_from}
-use Rattle.connect_codec.specs.declared.answer.Outcome.{Outcome}
-use Rattle.gateway_theory.specs.Task.{HandedJob}
-use Rattle.gateway_model.specs.Job.{JobValue}
-use Rattle.gateway_model.specs.Queue.{IsPrefixOf}
-use Rattle.loop_model.specs.Clients.{ClientValue, client_value}
-use Rattle.loop_model.specs.Explained.{LoopValue, at}
-use Rattle.loop_model.specs.Growing.{Continues, Grows, HasTicked}
-use Rattle.gateway_loop.specs.Clients.{Onward, lingering}
-use Rattle.gateway_loop.proofs.LoopLemmas.{Puts}
+use Rattle.gateway_loop.proofs.Words.{◌≡◌, ℕ, List, [], ◌∷◌, ◌++◌, map, Option, None, Some, refl, sym, ap, ◌∙◌, subst, append_assoc, append-nil, inl, inr, ⊎_elim, Bool, true, false, cond, arith, length, ◌+◌, count_by, option_map_or, Contains, cases_eq, Contains-append_left, Contains-push, map-append, sum_by-cons, entries_from, Outcome, HandedJob, JobValue, IsPrefixOf, ClientValue, client_value, LoopValue, at, Continues, Grows, Onward, lingering}
+use Rattle.std.proofs.lemmas.Bool.Decides.{nat_tests}
+use Rattle.gateway_loop.proofs.Places.{Put}
 
 pub begins_same : {A : Type 0} (xs : List A) → IsPrefixOf xs xs
 begins_same xs = ([], sym (append-nil xs))
@@ -34,11 +19,7 @@ pub grows_same : (x : ClientValue) → Grows x x
 grows_same x = record { conn = refl; given = begins_same x.given; got = begins_same x.got }
 
 pub grows_then : (x y z : ClientValue) → Grows x y → Grows y z → Grows x z
-grows_then x y z a b = record {
-  conn = b.conn ∙ a.conn;
-  given = begins_then x.given y.given z.given a.given b.given;
-  got = begins_then x.got y.got z.got a.got b.got;
-}
+grows_then x y z a b = search (arith, nat_tests, begins_then)
 
 contains_more : {A : Type 0} (xs ys : List A) (x : A) → IsPrefixOf xs ys → Contains xs x → Contains ys x
 contains_more xs ys x p there = subst (λ l. Contains l x) (sym p.1) (Contains-append_left xs p.0 x there)
@@ -60,7 +41,7 @@ continues_then u v w a b = record {
 }
 
 pub onward : (v w : LoopValue) → Continues v w → Onward v w
-onward v w c u a = continues_then u v w a c
+onward v w c = record { on = λ u a. continues_then u v w a c }
 
 pub continues_same : (v : LoopValue) → Continues v v
 continues_same v = record {
@@ -92,7 +73,7 @@ continues_all v w plans clients gone drained told results handed = record {
 module _ (v w : LoopValue) (plans : w.core.plans ≡ v.core.plans) (told : w.told ≡ v.told) (results : w.results ≡ v.results) (handed : w.handed ≡ v.handed)
     (drained : w.drained ≡ v.drained) (i : ℕ) where
   -- the client in a place grew
-  pub continues_put : (x y : ClientValue) → at i v.clients ≡ Some x → Grows x y → Puts v.clients w.clients i (Some y) → w.gone ≡ v.gone → Continues v w
+  pub continues_put : (x y : ClientValue) → at i v.clients ≡ Some x → Grows x y → Put v.clients w.clients i (Some y) → w.gone ≡ v.gone → Continues v w
   continues_put x y its grows puts gone = record {
     plans = plans;
     clients = λ j z is.
@@ -110,7 +91,7 @@ module _ (v w : LoopValue) (plans : w.core.plans ≡ v.core.plans) (told : w.tol
   }
 
   -- .. has gone
-  pub continues_go : (x : ClientValue) → at i v.clients ≡ Some x → Puts v.clients w.clients i None → w.gone ≡ v.gone ++ x ∷ [] → Continues v w
+  pub continues_go : (x : ClientValue) → at i v.clients ≡ Some x → Put v.clients w.clients i None → w.gone ≡ v.gone ++ x ∷ [] → Continues v w
   continues_go x its puts gone = record {
     plans = plans;
     clients = λ j z is.
@@ -128,7 +109,7 @@ module _ (v w : LoopValue) (plans : w.core.plans ≡ v.core.plans) (told : w.tol
   }
 
   -- .. came
-  pub continues_come : (y : ClientValue) → at i v.clients ≡ None → Puts v.clients w.clients i (Some y) → w.gone ≡ v.gone → Continues v w
+  pub continues_come : (y : ClientValue) → at i v.clients ≡ None → Put v.clients w.clients i (Some y) → w.gone ≡ v.gone → Continues v w
   continues_come y free puts gone = record {
     plans = plans;
     clients = λ j z is.
@@ -168,35 +149,19 @@ told_result r = (r.0.job, r.1)
 
 pub noted_result : (items later : List (HandedJob × Option Outcome)) (j : HandedJob) (o : Option Outcome) → later ≡ items ++ (j, o) ∷ []
     → map (λ (r : HandedJob × Option Outcome). told_result r) later ≡ map (λ (r : HandedJob × Option Outcome). told_result r) items ++ (j.job, o) ∷ []
-noted_result items later j o is =
-    ap (λ (l : List (HandedJob × Option Outcome)). map (λ (r : HandedJob × Option Outcome). told_result r) l) is
-    ∙ map-append (λ (r : HandedJob × Option Outcome). told_result r) items ((j, o) ∷ [])
+noted_result items later j o is = grind (arith, nat_tests, map-append)
 
 pub noted_job : (items later : List (HandedJob × Bool)) (j : HandedJob) (b : Bool) → later ≡ items ++ (j, b) ∷ []
     → map (λ (x : HandedJob × Bool). x.0.job) later ≡ map (λ (x : HandedJob × Bool). x.0.job) items ++ j.job ∷ []
-noted_job items later j b is =
-    ap (λ (l : List (HandedJob × Bool)). map (λ (x : HandedJob × Bool). x.0.job) l) is ∙ map-append (λ (x : HandedJob × Bool). x.0.job) items ((j, b) ∷ [])
+noted_job items later j b is = grind (arith, nat_tests, map-append)
 
 pub tells_one : (before after was now : List ℕ) (m : ℕ) → after ≡ before ++ m ∷ [] → now ≡ was ++ m ∷ [] → (u : List ℕ) → before ≡ u ++ was → after ≡ u ++ now
-tells_one before after was now m told more u is =
-    told ∙ ap (λ (t : List ℕ). t ++ m ∷ []) is ∙ append_assoc u was (m ∷ []) ∙ ap (λ (t : List ℕ). u ++ t) (sym more)
-
-pub goes_then : (u v w : LoopValue) → Onward u v → Onward v w → Onward u w
-goes_then u v w p q a c = q a (p a c)
+tells_one before after was now m told more u is = grind (arith, nat_tests, append_assoc)
 
 -- ---- moments that were told
 
 pub ticks_by : (was now : List ℕ) (m : ℕ) → now ≡ was ++ m ∷ [] → (moment : ℕ) × (more : List ℕ) × (now ≡ was ++ moment ∷ more)
 ticks_by was now m is = (m, [], is)
-
--- what goes on after a moment was told
-pub ticked_on : (u v w : LoopValue) → HasTicked u v → Onward v w → HasTicked u w
-ticked_on u v w t o =
-    let p = (o v (continues_same v)).told in
-    (t.0, t.1 ++ p.0, p.1 ∙ ap (λ (l : List ℕ). l ++ p.0) t.2 ∙ append_assoc u.told (t.0 ∷ t.1) p.0)
-
-pub ticked_same : (u v w : LoopValue) → HasTicked u v → w.told ≡ v.told → HasTicked u w
-ticked_same u v w t is = (t.0, t.1, is ∙ t.2)
 
 -- ---- how many are there
 
@@ -206,12 +171,8 @@ nothing_more n = omega arith
 pub count_entries : {A : Type 0} (p : A → Bool) (key : ℕ) (slots : List (Option A))
     → count_by (λ (e : ℕ × A). p e.1) (entries_from key slots) ≡ count_by (λ (o : Option A). option_map_or p o false) slots
 count_entries p key [] = refl
-count_entries p key (None ∷ rest) =
-    count_entries p (key + 1) rest ∙ sym (sum_by-cons (λ o. cond (option_map_or p o false) 1 0) None rest ∙ nothing_more _)
-count_entries p key (Some x ∷ rest) =
-    sum_by-cons (λ e. cond (p e.1) 1 0) (key, x) (entries_from (key + 1) rest)
-    ∙ ap (λ n. cond (p x) 1 0 + n) (count_entries p (key + 1) rest)
-    ∙ sym (sum_by-cons (λ o. cond (option_map_or p o false) 1 0) (Some x) rest)
+count_entries p key (None ∷ rest) = cc (count_entries p (key + 1) rest)
+count_entries p key (Some x ∷ rest) = search (arith, nat_tests, count_entries p (key + 1) rest, sum_by-cons)
 
 abbrev pub count_of : {A : Type 0} → (A → Bool) → List (ℕ × A) → ℕ
 count_of p entries = count_by (λ e. p e.1) entries
@@ -225,9 +186,7 @@ counted p old rest e n total steps on is =
 
 pub passed_over : {A : Type 0} (p : A → Bool) (old rest : List (ℕ × A)) (e : ℕ × A) (n total : ℕ) → old ≡ e ∷ rest → p e.1 ≡ false
     → n + count_of p old ≡ total → n + count_of p rest ≡ total
-passed_over p old rest e n total steps off is =
-    let none : count_of p old ≡ 0 + count_of p rest = ap (λ l. count_of p l) steps ∙ sum_by-cons (λ d. cond (p d.1) 1 0) e rest ∙ ap (λ b. cond b 1 0 + count_of p rest) off in
-    omega (arith, is, none)
+passed_over p old rest e n total steps off is = cc
 
 pub one_less : {A : Type 0} (old rest : List A) (e : A) → old ≡ e ∷ rest → length old ≡ 1 + length rest
 one_less old rest e steps = ap (λ l. length l) steps ∙ omega arith

@@ -1,24 +1,10 @@
 -- What one event more makes of each connection.
-use Rattle.std.proofs.Common.{◌≡◌, ℕ, suc, ◌<◌, ◌≤◌, Bool, true, false, List, [], ◌∷◌, ◌++◌, length, Option, None, refl, sym, ap, ◌∙◌, subst, arith, append_assoc, ⊎_elim}
-use Rattle.std.specs.Prelude.{◌||◌, ◌==◌, if◌then◌else◌, is_some, map, nat_lt, MatchBool, ⊤}
-use Rattle.std.proofs.lemmas.Bool.{cases_Bool, eq-eqb, ltb-false, ltb-true, ne_eqb}
-use Rattle.std.proofs.lemmas.List.{map-append}
-use Rattle.call_plan.specs.Plan.{PlanRecord}
-use Rattle.gateway_model.specs.declared.event.Event.{Event}
-use Rattle.gateway_model.specs.declared.event.Event.TheVariants.{Opening, Piece, HangUp, Moment, BranchResult, Drain, Closing}
-use Rattle.gateway_model.specs.Events.{Before, Gains, Occurs, OccursAt, connections, hung_up, is_closing_of, is_hang_up_of, is_open, listens, once, onto, piece_of, stream, succeeds}
-use Rattle.gateway_model.specs.History.{History, after_event, after_jobs, after_opening}
-use Rattle.gateway_model.specs.Job.{JobValue}
+use Rattle.gateway_loop.proofs.Words.{◌≡◌, ℕ, suc, ◌<◌, ◌≤◌, Bool, true, false, List, [], ◌∷◌, ◌++◌, length, Option, None, refl, sym, ap, ◌∙◌, subst, arith, append_assoc, ◌||◌, ◌==◌, map, ⊤, eq-eqb, ltb-false, ltb-true, ne_eqb, map-append, PlanRecord, Event, Opening, Piece, HangUp, Closing, Before, Occurs, OccursAt, connections, hung_up, is_closing_of, is_hang_up_of, is_open, once, onto, piece_of, stream, succeeds, History, after_event, after_jobs, after_opening, JobValue, Past, arrivals, coming_on, mark_of, marked, queued_entries, Placed, occurrences, after_reply, Follows, IsStreamOf, Leads}
+use Rattle.std.proofs.lemmas.Bool.Decides.{nat_tests}
 use Rattle.gateway_model.specs.Occurrence.{Coming, Comes, Occurrence}
-use Rattle.gateway_model.specs.Occurrence as occurs
-use Rattle.gateway_model.specs.Past.{Past, arrivals, coming_on, is_broken, mark_of, marked}
-use Rattle.gateway_model.specs.Queue.{queued_entries}
-use Rattle.gateway_model.specs.Starts.{Placed, occurrences}
 use Rattle.gateway_theory.specs.Replies.{ReplyValue}
-use Rattle.gateway_theory.specs.Served.{after_reply}
 use Rattle.gateway_theory.specs.lemmas.OneEvent.{same_openings, born_hung, born_open, born_stream, deaf_stream, kept_open, shut_deaf, shut_hung, stays_shut}
 use Rattle.gateway_theory.specs.lemmas.ServedOpens.{grown, occurs_before, succeeds_more, unopened_shut as unborn_open}
-use Rattle.gateway_loop.specs.Clients.{Follows, IsStreamOf, Leads}
 use Rattle.gateway_theory.specs.lemmas.CutLemmas.{connections_grow}
 use Rattle.gateway_theory.specs.lemmas.ServedLemmas.{hung_still as kept_hung, text_still as kept_stream}
 
@@ -53,18 +39,11 @@ follows_event plans e h later (past, occurred, (os, at, is)) = onto_follows plan
 
 -- ---- going on
 
-stream_again : (c : ℕ) (h : History) → c < connections h.opened h.events → IsStreamOf c h h
-stream_again c h lt = record { known = lt; still_open = refl; hung = refl; text = refl }
-
 streams_then : (c : ℕ) (h k l : History) → IsStreamOf c h k → IsStreamOf c k l → IsStreamOf c h l
 streams_then c h k l a b = record { known = b.known; still_open = b.still_open ∙ a.still_open; hung = b.hung ∙ a.hung; text = b.text ∙ a.text }
 
 pub leads_none : (plans : List PlanRecord) (own : ℕ → Bool) (h : History) → Leads plans own h h
-leads_none plans own h = record {
-  others = λ c off lt. record { of_stream = stream_again c h lt; taken = refl };
-  shut = λ c lt closed. stream_again c h lt;
-  follows = λ later all. record { before = later; occurred = all; since = []; later_is = refl };
-}
+leads_none plans own h = search arith
 
 pub leads_then : (plans : List PlanRecord) (own : ℕ → Bool) (h k l : History) → Leads plans own h k → Leads plans own k l → Leads plans own h l
 leads_then plans own h k l a b = record {
@@ -131,18 +110,10 @@ leads_event plans own e h away = record {
 
 -- a reply or jobs were taken, and no event came
 pub leads_reply : (plans : List PlanRecord) (n : ℕ) (reply : Option ReplyValue) (h : History) → Leads plans (λ c. c == n) h (after_reply n reply h)
-leads_reply plans n reply h = record {
-  others = λ c off lt. record { of_stream = record { known = lt; still_open = refl; hung = refl; text = refl }; taken = rw off refl };
-  shut = λ c lt closed. record { known = lt; still_open = refl; hung = refl; text = refl };
-  follows = λ later all. record { before = later; occurred = all; since = []; later_is = refl };
-}
+leads_reply plans n reply h = search arith
 
 pub leads_jobs : (plans : List PlanRecord) (own : ℕ → Bool) (jobs : List JobValue) (h : History) → Leads plans own h (after_jobs jobs h)
-leads_jobs plans own jobs h = record {
-  others = λ c off lt. record { of_stream = record { known = lt; still_open = refl; hung = refl; text = refl }; taken = refl };
-  shut = λ c lt closed. record { known = lt; still_open = refl; hung = refl; text = refl };
-  follows = λ later all. record { before = later; occurred = all; since = []; later_is = refl };
-}
+leads_jobs plans own jobs h = search arith
 
 -- ---- an opening
 
@@ -151,13 +122,10 @@ module _ (h : History) (below : (place : ℕ) → succeeds h.opened place ≡ tr
   more = h.opened ++ length h.events ∷ []
 
   or_true : (b : Bool) → (b || true) ≡ true
-  or_true true = refl
-  or_true false = refl
+  or_true b = grind (arith, nat_tests)
 
   succeeded : succeeds more (length h.events) ≡ true
-  succeeded =
-      succeeds_more h.opened (length h.events) (length h.events) ∙ ap (λ b. succeeds h.opened (length h.events) || b) (eq-eqb (length h.events) (length h.events) refl)
-      ∙ or_true (succeeds h.opened (length h.events))
+  succeeded = grind (arith, nat_tests, succeeds_more, eq-eqb, or_true)
 
   as_many : connections more h.events ≡ connections h.opened h.events
   as_many = (same_openings h.opened (length h.events) h.events below (omega arith)).connections_are
@@ -204,14 +172,10 @@ NotComing c (o ∷ os) = ((b : Bool) → coming_on c o b ≡ None) × NotComing 
 quiet_onto : (c place : ℕ) (os : List Occurrence) (past : List Placed) → NotComing c os
     → arrivals c (marked (occurrences (onto place os past))) ≡ arrivals c (marked (occurrences past))
 quiet_onto c place [] past quiet = refl
-quiet_onto c place (o ∷ os) past quiet =
-    let n = arrivals c (marked (occurrences past)) in
-    quiet_onto c place os ((place, o) ∷ past) quiet.1
-    ∙ ap (λ (x : Option Coming). if is_some x then suc n else n) (quiet.0 (is_broken c (marked (occurrences past))))
+quiet_onto c place (o ∷ os) past quiet = search (arith, quiet_onto c place os ((place, o) ∷ past) quiet.1)
 
 quiet_once : (c : ℕ) (b : Bool) (o : Occurrence) → ((x : Bool) → coming_on c o x ≡ None) → NotComing c (once b o)
-quiet_once c true o none = (none, tt)
-quiet_once c false o none = tt
+quiet_once c b o h3 = grind (arith, nat_tests)
 
 quiet_comes : (c d : ℕ) (gained : List Coming) → (d == c) ≡ false → NotComing c (map (Comes d) gained)
 quiet_comes c d [] off = tt
@@ -222,27 +186,7 @@ below_apart c d n lt le = ne_eqb d c (λ at. omega (arith, at, lt, le))
 
 quiet_at : (plans : List PlanRecord) (opened : List ℕ) (e : Event) (es : Before) (os : List Occurrence) (c : ℕ) → connections opened es ≤ c
     → OccursAt plans opened e es os → NotComing c os
-quiet_at plans opened Opening es os c le at = rw at (quiet_once c (succeeds opened (length es)) occurs.Opening (λ x. refl))
-quiet_at plans opened (Piece d bytes) es os c le at = by_it (listens opened d es) refl at
-  where
-    by_it : (b : Bool) → listens opened d es ≡ b
-        → MatchBool b ((gained : List Coming) × Gains plans (stream opened d es) (stream opened d es ++ bytes) gained × (os ≡ map (Comes d) gained)) (os ≡ [])
-        → NotComing c os
-    by_it true on (gained, gains, is) = rw is (quiet_comes c d gained (below_apart c d (connections opened es) (known on) le))
-      where
-        known : listens opened d es ≡ true → d < connections opened es
-        known it = ⊎_elim
-            (λ (lt : nat_lt d (connections opened es) ≡ true). ltb-true d (connections opened es) lt)
-            (λ (ge : nat_lt d (connections opened es) ≡ false).
-            let deaf = shut_deaf opened d es (unborn_open opened d es (ltb-false d (connections opened es) ge)) in
-            absurd (let clash : true ≡ false = sym it ∙ deaf in let f : ⊥ = cc in f))
-            (cases_Bool (nat_lt d (connections opened es)))
-    by_it false off is = rw is tt
-quiet_at plans opened (HangUp d) es os c le at = rw at (quiet_once c (listens opened d es) (occurs.HangUp d) (λ x. refl))
-quiet_at plans opened (Moment m) es os c le at = rw at ((λ x. refl), tt)
-quiet_at plans opened (BranchResult d k i o) es os c le at = rw at ((λ x. refl), tt)
-quiet_at plans opened Drain es os c le at = rw at ((λ x. refl), tt)
-quiet_at plans opened (Closing d) es os c le at = rw at (quiet_once c (is_open opened d es) (occurs.Closing d) (λ x. refl))
+quiet_at plans opened e es os c h6 h7 = grind (arith, nat_tests, quiet_once, quiet_comes, below_apart, ltb-true, shut_deaf, unborn_open, ltb-false)
 
 pub none_came : (plans : List PlanRecord) (opened : List ℕ) (es : Before) (occurred : List Placed) (c : ℕ) → Occurs plans opened es occurred
     → connections opened es ≤ c → arrivals c (marked (occurrences occurred)) ≡ 0
@@ -256,13 +200,7 @@ none_came plans opened (e ∷ es) occurred c (past, o, (os, at, is)) le =
 -- nothing is queued for a connection that has just opened
 pub none_queued : (plans : List PlanRecord) (opened : List ℕ) (es : Before) (occurred : List Placed) → Occurs plans opened (Opening ∷ es) occurred
     → queued_entries (connections opened es) (marked (occurrences occurred)) ≡ []
-none_queued plans opened es occurred (past, o, (os, at, is)) =
-    let c = connections opened es in
-    let none : arrivals c (marked (occurrences occurred)) ≡ 0 =
-    ap (λ (x : List Placed). arrivals c (marked (occurrences x))) is
-    ∙ quiet_onto c (length es) os past (quiet_at plans opened Opening es os c (omega arith) at)
-    ∙ none_came plans opened es past c o (omega arith) in
-    rw none refl
+none_queued plans opened es occurred (past, o, (os, at, is)) = grind (arith, nat_tests, quiet_onto, quiet_at, none_came)
 
 pub born_queue : (h : History) (below : (place : ℕ) → succeeds h.opened place ≡ true → place < length h.events) (plans : List PlanRecord) (later : List Placed)
     → Occurs plans (more h below) (Opening ∷ h.events) later → queued_entries (connections h.opened h.events) (marked (occurrences later)) ≡ []

@@ -1,3 +1,5 @@
+pub mod Words
+pub mod Places
 pub mod LeadLemmas
 pub mod StepLemmas
 pub mod SumLemmas

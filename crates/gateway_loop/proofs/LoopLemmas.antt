@@ -1,51 +1,18 @@
 -- What steps of one client, and other events, make of what the core's history explains.
-use Rattle.std.proofs.Common.{◌≡◌, ◌≢◌, ℕ, suc, ◌+◌, ◌<◌, Bool, true, false, cond, List, [], ◌∷◌, ◌++◌, All, reverse, Option, None, Some, refl, sym, ap, ◌∙◌, subst, arith, ⊎_elim}
-use Rattle.std.specs.Prelude.{◌==◌}
-use Rattle.std.specs.List.{AllZip}
-use Rattle.std.proofs.lemmas.Bool.{cases_Bool, cases_eq, eqb-true}
-use Rattle.std.proofs.lemmas.List.Elements.{All-push, All-weaker}
-use Rattle.call_plan.specs.Plan.{PlanRecord}
-use Rattle.connect_codec.specs.declared.answer.Outcome.{Outcome}
-use Rattle.gateway_model.specs.Events.{connections}
-use Rattle.gateway_model.specs.History.{History}
-use Rattle.gateway_model.specs.Job.{JobValue}
-use Rattle.slab.specs.Slab.{Slab, Updates}
-use Rattle.loop_model.specs.Clients.{ClientValue}
-use Rattle.loop_model.specs.Explained.{LoopValue, at, one_below}
-use Rattle.loop_model.specs.Handed.{HandsIn, IsResultOf, ResultValue, latest, moments, results}
-use Rattle.gateway_loop.specs.Clients.{Fits, HasStood, IsHeld, IsQuiet, Leads, OpensNone}
-use Rattle.gateway_loop.specs.Laws.{LoopLaws}
+use Rattle.gateway_loop.proofs.Words.{◌≡◌, ℕ, suc, ◌+◌, ◌<◌, Bool, false, cond, List, [], ◌∷◌, ◌++◌, All, Option, None, Some, refl, sym, ap, ◌∙◌, subst, arith, ◌==◌, All-push, All-weaker, PlanRecord, Outcome, connections, History, ClientValue, LoopValue, at, one_below, results, Fits, HasStood, HoldsRest, IsHeld, IsQuiet, Leads, OpensNone, LoopLaws}
+use Rattle.std.proofs.lemmas.Bool.Decides.{nat_tests}
 use Rattle.gateway_loop.proofs.StepLemmas.{fits_on, stood_on}
+use Rattle.gateway_loop.proofs.Places.{Put}
 use Rattle.gateway_loop.proofs.CountLemmas.{count_comes, count_goes, count_steps, one_more}
 
 -- ---- places
-
--- what stands in one place is new
-pub record Puts (old new : List (Option ClientValue)) (i : ℕ) (o : Option ClientValue) : Type 0 where
-  pub here : at i new ≡ o
-  pub there : (j : ℕ) → j ≢ i → at j new ≡ at j old
-
-pub puts_one : (s t : Slab ClientValue) (i : ℕ) (o : Option ClientValue) → Updates s t i o → Puts s.slots t.slots i o
-puts_one s t i o u = record { here = u.changed; there = u.others }
-
--- it was taken out, and put back
-pub puts_back : (s t u : Slab ClientValue) (i key : ℕ) (y : ClientValue) → Updates s t i None → t.vacant_key ≡ i → key ≡ t.vacant_key → Updates t u key (Some y)
-    → Puts s.slots u.slots i (Some y)
-puts_back s t u i key y out next is back =
-    let same : key ≡ i = is ∙ next in
-    let again : Updates t u i (Some y) = subst (λ (n : ℕ). Updates t u n (Some y)) same back in
-    record { here = again.changed; there = λ j other. again.others j other ∙ out.others j other }
 
 data In (old : List (Option ClientValue)) (i : ℕ) (o : Option ClientValue) (j : ℕ) (x : ClientValue) : Type 0 where
   Here : j ≡ i → o ≡ Some x → In old i o j x
   There : (j ≡ i → ⊥) → at j old ≡ Some x → In old i o j x
 
-among : (old new : List (Option ClientValue)) (i : ℕ) (o : Option ClientValue) → Puts old new i o → (j : ℕ) (x : ClientValue) → at j new ≡ Some x → In old i o j x
-among old new i o p j x is =
-    ⊎_elim
-    (λ (same : j ≡ i). Here same (sym p.here ∙ ap (λ n. at n new) (sym same) ∙ is))
-    (λ (other : j ≡ i → ⊥). There other (sym (p.there j other) ∙ is))
-    (cases_eq j i)
+among : (old new : List (Option ClientValue)) (i : ℕ) (o : Option ClientValue) → Put old new i o → (j : ℕ) (x : ClientValue) → at j new ≡ Some x → In old i o j x
+among old new i o p j x is = search arith
 
 some_is : (a b : ClientValue) → Some a ≡ Some b → a ≡ b
 some_is a b it = cc
@@ -54,16 +21,14 @@ no_some : (b : ClientValue) → None ≡ Some b → ⊥
 no_some b it = cc
 
 differ : (a b : ClientValue) (i j : ℕ) → (a.conn ≡ b.conn → i ≡ j) → (i ≡ j → ⊥) → (a.conn == b.conn) ≡ false
-differ a b i j one other =
-    ⊎_elim (λ (same : (a.conn == b.conn) ≡ true). absurd (other (one (eqb-true a.conn b.conn same)))) (λ (apart : (a.conn == b.conn) ≡ false). apart) (cases_Bool (a.conn == b.conn))
+differ a b i j one other = search arith
 
 abbrev pub nobodys : ℕ → Bool
 nobodys c = false
 
 pub all_stood : (laws : LoopLaws) (plans : List PlanRecord) (own : ℕ → Bool) (h k : History) (gone : List ClientValue) → Leads plans own h k
     → All (λ (x : ClientValue). HasStood plans h x) gone → All (λ (x : ClientValue). HasStood plans k x) gone
-all_stood laws plans own h k gone l =
-    All-weaker (λ (x : ClientValue). HasStood plans h x) (λ (x : ClientValue). HasStood plans k x) (λ x s. stood_on laws plans own h k x l s) gone
+all_stood laws plans own h k gone l = grind (arith, nat_tests, All-weaker, stood_on)
 
 -- all but the clients are the same
 pub record SameRest (l m : LoopValue) : Type 0 where
@@ -73,9 +38,12 @@ pub record SameRest (l m : LoopValue) : Type 0 where
   pub drained : m.drained ≡ l.drained
 
 module _ (unknown : Outcome) (laws : LoopLaws) (plans : List PlanRecord) (moment : ℕ) (l m : LoopValue) where
+  rest_kept : (h k : History) → IsQuiet h k → SameRest l m → HoldsRest unknown h moment l → HoldsRest unknown k moment m
+  rest_kept h k quiet rest held = search arith
+
   -- the client in a place made steps
   pub held_steps : (h k : History) (i : ℕ) (x y : ClientValue) → at i l.clients ≡ Some x → y.conn ≡ x.conn → Fits plans k y
-      → Leads plans (λ c. c == x.conn) h k → IsQuiet h k → OpensNone h k → Puts l.clients m.clients i (Some y) → m.gone ≡ l.gone → SameRest l m
+      → Leads plans (λ c. c == x.conn) h k → IsQuiet h k → OpensNone h k → Put l.clients m.clients i (Some y) → m.gone ≡ l.gone → SameRest l m
       → IsHeld unknown plans h moment l → IsHeld unknown plans k moment m
   held_steps h k i x y its same fits leads quiet opens puts gone rest held = record {
     fits = λ j z is. elim (among l.clients m.clients i (Some y) puts j z is) [
@@ -96,18 +64,12 @@ module _ (unknown : Outcome) (laws : LoopLaws) (plans : List PlanRecord) (moment
     each = λ c. count_steps l m i puts.there c x y its puts.here same gone ∙ held.each c ∙ ap (one_below c) (sym opens);
     gone = subst (λ (g : List ClientValue). All (λ (z : ClientValue). HasStood plans k z) g) (sym gone)
         (all_stood laws plans (λ c. c == x.conn) h k l.gone leads held.gone);
-    latest_is = held.latest_is ∙ ap latest (sym quiet.moments_are);
-    told = subst (λ (t : List ℕ). HandsIn (reverse t) (moments k.events)) (sym rest.told)
-        (subst (λ (ms : List ℕ). HandsIn (reverse l.told) ms) (sym quiet.moments_are) held.told);
-    results = subst (λ (rs : List (JobValue × Option Outcome)). AllZip (IsResultOf unknown) (results k.events) rs) (sym rest.results)
-        (subst (λ (rs : List ResultValue). AllZip (IsResultOf unknown) rs l.results) (sym quiet.results_are) held.results);
-    handed = quiet.handed_are ∙ held.handed ∙ sym rest.handed;
-    drained = quiet.drains_are ∙ held.drained ∙ sym rest.drained;
+    rest = rest_kept h k quiet rest held.rest;
   }
 
   -- it goes
   pub held_goes : (h k : History) (i : ℕ) (x : ClientValue) → at i l.clients ≡ Some x → HasStood plans k x
-      → Leads plans (λ c. c == x.conn) h k → IsQuiet h k → OpensNone h k → Puts l.clients m.clients i None → m.gone ≡ l.gone ++ x ∷ [] → SameRest l m
+      → Leads plans (λ c. c == x.conn) h k → IsQuiet h k → OpensNone h k → Put l.clients m.clients i None → m.gone ≡ l.gone ++ x ∷ [] → SameRest l m
       → IsHeld unknown plans h moment l → IsHeld unknown plans k moment m
   held_goes h k i x its stood leads quiet opens puts gone rest held = record {
     fits = λ j z is. elim (among l.clients m.clients i None puts j z is) [
@@ -125,20 +87,14 @@ module _ (unknown : Outcome) (laws : LoopLaws) (plans : List PlanRecord) (moment
     each = λ c. count_goes l m i puts.there c x its puts.here gone ∙ held.each c ∙ ap (one_below c) (sym opens);
     gone = subst (λ (g : List ClientValue). All (λ (z : ClientValue). HasStood plans k z) g) (sym gone)
         (All-push (λ (z : ClientValue). HasStood plans k z) l.gone x (all_stood laws plans (λ c. c == x.conn) h k l.gone leads held.gone) stood);
-    latest_is = held.latest_is ∙ ap latest (sym quiet.moments_are);
-    told = subst (λ (t : List ℕ). HandsIn (reverse t) (moments k.events)) (sym rest.told)
-        (subst (λ (ms : List ℕ). HandsIn (reverse l.told) ms) (sym quiet.moments_are) held.told);
-    results = subst (λ (rs : List (JobValue × Option Outcome)). AllZip (IsResultOf unknown) (results k.events) rs) (sym rest.results)
-        (subst (λ (rs : List ResultValue). AllZip (IsResultOf unknown) rs l.results) (sym quiet.results_are) held.results);
-    handed = quiet.handed_are ∙ held.handed ∙ sym rest.handed;
-    drained = quiet.drains_are ∙ held.drained ∙ sym rest.drained;
+    rest = rest_kept h k quiet rest held.rest;
   }
 
   -- one comes, of a connection that no other has
   pub held_comes : (h k : History) (i : ℕ) (y : ClientValue) → Fits plans k y → y.conn ≡ connections h.opened h.events
       → ((x : ClientValue) → Fits plans h x → x.conn < connections h.opened h.events)
       → Leads plans nobodys h k → IsQuiet h k → connections k.opened k.events ≡ suc (connections h.opened h.events) → at i l.clients ≡ None
-      → Puts l.clients m.clients i (Some y) → m.gone ≡ l.gone → SameRest l m
+      → Put l.clients m.clients i (Some y) → m.gone ≡ l.gone → SameRest l m
       → IsHeld unknown plans h moment l → IsHeld unknown plans k moment m
   held_comes h k i y fits new older leads quiet opens vacant puts gone rest held = record {
     fits = λ j z is. elim (among l.clients m.clients i (Some y) puts j z is) [
@@ -161,13 +117,7 @@ module _ (unknown : Outcome) (laws : LoopLaws) (plans : List PlanRecord) (moment
         ∙ ap (λ (t : ℕ). one_below c n + cond (t == c) 1 0) new ∙ one_more c n ∙ ap (one_below c) (sym opens);
     gone = subst (λ (g : List ClientValue). All (λ (z : ClientValue). HasStood plans k z) g) (sym gone)
         (all_stood laws plans nobodys h k l.gone leads held.gone);
-    latest_is = held.latest_is ∙ ap latest (sym quiet.moments_are);
-    told = subst (λ (t : List ℕ). HandsIn (reverse t) (moments k.events)) (sym rest.told)
-        (subst (λ (ms : List ℕ). HandsIn (reverse l.told) ms) (sym quiet.moments_are) held.told);
-    results = subst (λ (rs : List (JobValue × Option Outcome)). AllZip (IsResultOf unknown) (results k.events) rs) (sym rest.results)
-        (subst (λ (rs : List ResultValue). AllZip (IsResultOf unknown) rs l.results) (sym quiet.results_are) held.results);
-    handed = quiet.handed_are ∙ held.handed ∙ sym rest.handed;
-    drained = quiet.drains_are ∙ held.drained ∙ sym rest.drained;
+    rest = rest_kept h k quiet rest held.rest;
   }
     where
       clash : (z : ClientValue) → Fits plans h z → {c : ℕ} → c ≡ connections h.opened h.events → c ≡ z.conn → ⊥

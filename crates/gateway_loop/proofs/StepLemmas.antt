@@ -1,32 +1,15 @@
 -- What steps of a client make of what it fits.
-use Rattle.std.proofs.Common.{◌≡◌, ℕ, ◌<◌, Bool, true, false, List, [], ◌∷◌, ◌++◌, length, take, drop, map, flat_map, Option, None, Some, refl, sym, ap, ◌∙◌, subst, append_assoc, append-nil}
-use Rattle.std.specs.Prelude.{◌==◌, ◌&&◌, not, if◌then◌else◌}
-use Rattle.std.proofs.lemmas.Bool.{eq-eqb}
+use Rattle.gateway_loop.proofs.Words.{◌≡◌, ℕ, ◌<◌, Bool, true, false, List, [], ◌∷◌, ◌++◌, length, take, Option, Some, refl, sym, ap, ◌∙◌, subst, append_assoc, append-nil, ◌==◌, eq-eqb, map-append, PlanRecord, Event, Piece, HangUp, Closing, Occurs, connections, is_opening, stream, succeeds, History, after_event, after_opening, Past, marked, IsPrefixOf, answer_of, queued, Placed, occurrences, GatewayValue, Served, after_reply, ClientValue, client_value, is_drain, moment_in, result_in, Fits, FitsOn, HasStood, IsQuiet, Leads, MakesSteps, Stands, lingering, LoopLaws}
+use Rattle.std.proofs.lemmas.Bool.Decides.{nat_tests}
+use Rattle.std.proofs.Common.{arith}
 use Rattle.std.proofs.lemmas.Grind.{flat_map-append}
-use Rattle.std.proofs.lemmas.List.{map-append, take-append-drop}
-use Rattle.call_plan.specs.Plan.{PlanRecord}
 use Rattle.gateway_model.specs.declared.entry.ReplyEntry.{ReplyEntry}
-use Rattle.gateway_model.specs.declared.event.Event.{Event}
-use Rattle.gateway_model.specs.declared.event.Event.TheVariants.{Piece, HangUp, Closing}
-use Rattle.gateway_model.specs.declared.reply_bytes.ReplyBytes.{ReplyBytes}
-use Rattle.gateway_model.specs.Events.{Occurs, connections, hung_up, is_opening, listens, stream, succeeds}
-use Rattle.gateway_model.specs.History.{History, after_event, after_opening}
-use Rattle.gateway_model.specs.Past.{Past, marked}
-use Rattle.gateway_model.specs.Queue.{IsPrefixOf, answer_of, queued}
 use Rattle.gateway_model.specs.Run.{bytes_of}
-use Rattle.gateway_model.specs.Starts.{Placed, occurrences}
-use Rattle.gateway_theory.specs.Values.{GatewayValue}
 use Rattle.gateway_theory.specs.Replies.{ReplyValue}
-use Rattle.gateway_theory.specs.Served.{Served, after_reply}
-use Rattle.gateway_theory.specs.lemmas.OneEvent.{kept_open, more_stream, now_hung, shut_open}
-use Rattle.loop_model.specs.Clients.{ClientValue, client_value}
-use Rattle.loop_model.specs.Handed.{is_drain, moment_in, result_in, results}
-use Rattle.gateway_loop.specs.Clients.{Fits, FitsOn, HasStood, IsQuiet, Leads, MakesSteps, Stands, lingering}
+use Rattle.gateway_theory.specs.lemmas.OneEvent.{kept_open, now_hung, shut_open}
 use Rattle.wires.specs.Wires.{Gives}
 use Rattle.wires.specs.declared.got.Got.{Got}
-use Rattle.wires.specs.declared.got.Got.TheVariants as got
-use Rattle.gateway_loop.specs.Laws.{LoopLaws}
-use Rattle.gateway_loop.proofs.LeadLemmas.{Elsewhere, born_is_open, born_known, born_on, born_queue, born_text, closing_elsewhere, follows_event, leads_event, leads_none, leads_reply, leads_then}
+use Rattle.gateway_loop.proofs.LeadLemmas.{Elsewhere, born_is_open, born_known, born_on, born_queue, born_text, closing_elsewhere, follows_event, leads_event, leads_reply, leads_then}
 use Rattle.gateway_theory.specs.lemmas.ServedLemmas.{hung_still as kept_hung, text_still as kept_stream}
 
 pub prefix_then : (a b c : List ℕ) → IsPrefixOf a b → IsPrefixOf b c → IsPrefixOf a c
@@ -39,15 +22,7 @@ off_is_not b off on = let clash : true ≡ false = sym on ∙ off in absurd (let
 
 pub stands_on : (plans : List PlanRecord) (own : ℕ → Bool) (h k : History) (x : ClientValue) → Leads plans own h k → own x.conn ≡ false
     → Stands plans h x → Stands plans k x
-stands_on plans own h k x l off s =
-    let o = l.others x.conn off s.known in
-    let st = o.of_stream in record {
-      known = st.known;
-      still_open = st.still_open ∙ s.still_open;
-      read = s.read ∙ sym st.text;
-      hangs_up = st.hung ∙ s.hangs_up;
-      written = λ later all. let f = l.follows later all in s.written f.before f.occurred ∙ ap bytes_of (sym o.taken);
-    }
+stands_on plans own h k x l off s = search arith
 
 queued_later : (laws : LoopLaws) (c : ℕ) (bytes : List ℕ) (since : Past) (before later : List Placed) → marked (occurrences later) ≡ since ++ marked (occurrences before)
     → IsPrefixOf bytes (queued c (marked (occurrences before))) → IsPrefixOf bytes (queued c (marked (occurrences later)))
@@ -76,48 +51,18 @@ stood_on laws plans own h k x l s =
 
 pub fits_on : (laws : LoopLaws) (plans : List PlanRecord) (own : ℕ → Bool) (h k : History) (x : ClientValue) → Leads plans own h k → own x.conn ≡ false
     → Fits plans h x → Fits plans k x
-fits_on laws plans own h k x l off f = record {
-  stands = λ is. stands_on plans own h k x l off (f.stands is);
-  stood = λ is. stood_on laws plans own h k x l (f.stood is);
-}
-
-pub quiet_none : (h : History) → IsQuiet h h
-quiet_none h = record { moments_are = refl; results_are = refl; drains_are = refl; handed_are = refl }
+fits_on laws plans own h k x l off f = grind (arith, nat_tests, stands_on, stood_on)
 
 quiet_then : (h k l : History) → IsQuiet h k → IsQuiet k l → IsQuiet h l
-quiet_then h k l a b = record {
-  moments_are = b.moments_are ∙ a.moments_are;
-  results_are = b.results_are ∙ a.results_are;
-  drains_are = b.drains_are ∙ a.drains_are;
-  handed_are = b.handed_are ∙ a.handed_are;
-}
+quiet_then h k l a b = search arith
 
 pub quiet_event : (e : Event) (h : History) → moment_in e ≡ [] → result_in e ≡ [] → is_drain e ≡ false → IsQuiet h (after_event e h)
-quiet_event e h no_moment no_result no_drain = record {
-  moments_are = rw no_moment refl;
-  results_are = rw no_result (append-nil (results h.events));
-  drains_are = rw no_drain refl;
-  handed_are = refl;
-}
+quiet_event e h no_moment no_result no_drain = grind (arith, nat_tests, append-nil)
 
 -- ---- steps
 
 pub steps_fit : (v : GatewayValue) (x y : ClientValue) → FitsOn x y → MakesSteps v v x y
-steps_fit v x y on = record {
-  conn = on.conn;
-  plans = refl;
-  steps = λ plans h are served f. record {
-    later = h;
-    serves = served;
-    fits = on.fits plans h f;
-    leads = leads_none plans (λ c. c == x.conn) h;
-    quiet = quiet_none h;
-    opens = refl;
-  };
-}
-
-pub fit_same : (x : ClientValue) → FitsOn x x
-fit_same x = record { conn = refl; fits = λ plans h f. f }
+steps_fit v x y on = search arith
 
 pub steps_then : (u v w : GatewayValue) (x y z : ClientValue) → MakesSteps u v x y → MakesSteps v w y z → MakesSteps u w x z
 steps_then u v w x y z first second = record {
@@ -177,20 +122,7 @@ steps_reply v w x y reply same conn takes fits = record {
 pub fits_piece : (conn n : ℕ) (lingers ended ended' : Bool) (given got waiting given' got' piece : List ℕ) → lingers ≡ false
     → given' ≡ given ++ take n piece → got' ≡ got → ended' ≡ ended → ended ≡ false → (plans : List PlanRecord) (h : History)
     → Fits plans h (client_value conn lingers given got ended waiting) → Fits plans (after_event (Piece conn (take n piece)) h) (client_value conn lingers given' got' ended' waiting)
-fits_piece conn n lingers ended ended' given got waiting given' got' piece not_left more same_got same on plans h f =
-    let s = f.stands not_left in
-    let listening : listens h.opened conn h.events ≡ true = ap (λ b. b && not (hung_up h.opened conn h.events)) s.still_open ∙ ap not (s.hangs_up ∙ on) in record {
-      stands = λ off. record {
-        known = s.known;
-        still_open = kept_open h.opened conn (Piece conn (take n piece)) h.events s.known refl ∙ s.still_open;
-        read = more ∙ ap (λ (t : List ℕ). t ++ take n piece) s.read ∙ sym (more_stream h.opened conn (take n piece) h.events listening);
-        hangs_up = kept_hung h.opened conn (Piece conn (take n piece)) h.events refl ∙ s.hangs_up ∙ sym same;
-        written = λ later all.
-            let b = follows_event plans (Piece conn (take n piece)) h later all in
-            ap (λ (t : List ℕ). t ++ waiting) same_got ∙ s.written b.before b.occurred;
-      };
-      stood = λ is. absurd (off_is_not lingers not_left is);
-    }
+fits_piece conn n lingers ended ended' given got waiting given' got' piece not_left more same_got same on plans h f = search arith
 
 -- it hung up
 pub fits_hang_up : (conn : ℕ) (lingers ended ended' : Bool) (given got waiting given' got' : List ℕ) → lingers ≡ false
@@ -211,117 +143,17 @@ fits_hang_up conn lingers ended ended' given got waiting given' got' not_left sa
     }
 
 bytes_more : (entries : List ReplyEntry) (entry : ReplyEntry) → bytes_of (entries ++ entry ∷ []) ≡ bytes_of entries ++ (answer_of entry).bytes
-bytes_more entries entry =
-    ap (λ (l : List ReplyBytes). flat_map (λ (reply : ReplyBytes). reply.bytes) l) (map-append answer_of entries (entry ∷ []))
-    ∙ flat_map-append (λ (reply : ReplyBytes). reply.bytes) (map answer_of entries) (answer_of entry ∷ [])
-    ∙ ap (λ (t : List ℕ). bytes_of entries ++ t) (append-nil (answer_of entry).bytes)
+bytes_more entries entry = grind (arith, nat_tests, map-append, flat_map-append, append-nil)
 
 -- a reply was taken where nothing waited
 pub fits_reply : (conn : ℕ) (lingers ended : Bool) (given got waiting bytes : List ℕ) (reply : ReplyValue) → lingers ≡ false
     → waiting ≡ [] → bytes ≡ (answer_of reply.entry).bytes → (plans : List PlanRecord) (h : History)
     → Fits plans h (client_value conn lingers given got ended waiting) → Fits plans (after_reply conn (Some reply) h) (client_value conn lingers given got ended bytes)
-fits_reply conn lingers ended given got waiting bytes reply not_left none is plans h f =
-    let s = f.stands not_left in record {
-      stands = λ off. record {
-        known = s.known;
-        still_open = s.still_open;
-        read = s.read;
-        hangs_up = s.hangs_up;
-        written = λ later all.
-            ap (λ (t : List ℕ). got ++ t) is
-            ∙ ap (λ (t : List ℕ). t ++ (answer_of reply.entry).bytes) (sym (append-nil got) ∙ ap (λ (t : List ℕ). got ++ t) (sym none) ∙ s.written later all)
-            ∙ sym (bytes_more (h.taken conn) reply.entry)
-            ∙ ap (λ b. bytes_of (if b then h.taken conn ++ reply.entry ∷ [] else h.taken conn)) (sym (eq-eqb conn conn refl));
-      };
-      stood = λ on. absurd (off_is_not lingers not_left on);
-    }
-
--- no reply was there
-pub fits_none : (x : ClientValue) (plans : List PlanRecord) (h : History) → Fits plans h x → Fits plans (after_reply x.conn None h) x
-fits_none x plans h f = record {
-  stands = λ off. let s = f.stands off in record {
-    known = s.known;
-    still_open = s.still_open;
-    read = s.read;
-    hangs_up = s.hangs_up;
-    written = λ later all. s.written later all ∙ ap bytes_of (sym none);
-  };
-  stood = λ on. let s = f.stood on in let e = s.explained in record {
-    explained = record { known = e.known; dropped = e.dropped; read = e.read; all_fed = e.all_fed; hangs_up = e.hangs_up; no_other = e.no_other; written = e.written };
-    closed = s.closed;
-  };
-}
-  where
-    none : (if x.conn == x.conn then h.taken x.conn ++ [] else h.taken x.conn) ≡ h.taken x.conn
-    none = rw (eq-eqb x.conn x.conn refl) (append-nil (h.taken x.conn))
-
--- some of what waits was written
-pub fits_write : (conn n : ℕ) (lingers ended ended' : Bool) (given got waiting given' got' : List ℕ)
-    → given' ≡ given → got' ≡ got ++ take n waiting → ended' ≡ ended
-    → FitsOn (client_value conn lingers given got ended waiting) (client_value conn lingers given' got' ended' (drop n waiting))
-fits_write conn n lingers ended ended' given got waiting given' got' same more same_end = record {
-  conn = refl;
-  fits = λ plans h f. record {
-    stands = λ off. let s = f.stands off in record {
-      known = s.known;
-      still_open = s.still_open;
-      read = same ∙ s.read;
-      hangs_up = s.hangs_up ∙ sym same_end;
-      written = λ later all. whole ∙ s.written later all;
-    };
-    stood = λ on. let s = f.stood on in let e = s.explained in record {
-      explained = record {
-        known = e.known;
-        dropped = e.dropped;
-        read = same ∙ e.read;
-        all_fed = e.all_fed;
-        hangs_up = λ off. e.hangs_up off ∙ sym same_end;
-        no_other = λ hung. same_end ∙ e.no_other hung;
-        written = λ later all. subst (λ (t : List ℕ). IsPrefixOf t (queued conn (marked (occurrences later)))) (sym whole) (e.written later all);
-      };
-      closed = s.closed;
-    };
-  };
-}
-  where
-    whole : got' ++ drop n waiting ≡ got ++ waiting
-    whole = ap (λ (t : List ℕ). t ++ drop n waiting) more ∙ append_assoc got (take n waiting) (drop n waiting) ∙ ap (λ (t : List ℕ). got ++ t) (take-append-drop n waiting)
-
--- nothing was written
-pub fits_idle : (conn : ℕ) (lingers ended ended' : Bool) (given got waiting given' got' : List ℕ) → given' ≡ given → got' ≡ got → ended' ≡ ended
-    → FitsOn (client_value conn lingers given got ended waiting) (client_value conn lingers given' got' ended' waiting)
-fits_idle conn lingers ended ended' given got waiting given' got' same_given same_got same_end =
-    rw (same_given, same_got, same_end) (fit_same (client_value conn lingers given got ended waiting))
-
--- of one that lingers something came, and was dropped
-pub fits_drop : (conn : ℕ) (ended ended' : Bool) (given got waiting given' got' more : List ℕ) → given' ≡ given ++ more → got' ≡ got
-    → (ended ≡ true → ended' ≡ true)
-    → FitsOn (client_value conn true given got ended waiting) (client_value conn true given' got' ended' waiting)
-fits_drop conn ended ended' given got waiting given' got' more reads same_got still = record {
-  conn = refl;
-  fits = λ plans h f. record {
-    stands = λ off. absurd (off_is_not true off refl);
-    stood = λ on. let s = f.stood on in let e = s.explained in record {
-      explained = record {
-        known = e.known;
-        dropped = e.dropped ++ more;
-        read = reads ∙ ap (λ (t : List ℕ). t ++ more) e.read ∙ append_assoc (stream h.opened conn h.events) e.dropped more;
-        all_fed = λ off. absurd (off_is_not true off refl);
-        hangs_up = λ off. absurd (off_is_not true off refl);
-        no_other = λ hung. still (e.no_other hung);
-        written = λ later all. subst (λ (t : List ℕ). IsPrefixOf (t ++ waiting) (queued conn (marked (occurrences later)))) (sym same_got) (e.written later all);
-      };
-      closed = s.closed;
-    };
-  };
-}
+fits_reply conn lingers ended given got waiting bytes reply not_left none is plans h f = grind (arith, nat_tests, append-nil, bytes_more, eq-eqb, off_is_not)
 
 -- whatever a read came to, more was read, or nothing
 pub gives_more : (old new piece : List ℕ) (got : Got) → Gives old new piece got → (more : List ℕ) × (new ≡ old ++ more)
-gives_more old new piece (got.Bytes n) is = (take n piece, is.2)
-gives_more old new piece got.Nothing is = ([], is ∙ sym (append-nil old))
-gives_more old new piece got.Interrupted is = ([], is ∙ sym (append-nil old))
-gives_more old new piece (got.End kind) is = ([], is ∙ sym (append-nil old))
+gives_more old new piece got h4 = grind (arith, nat_tests, append-nil)
 
 -- ---- closing
 

@@ -1,7 +1,5 @@
 -- Sums over places.
-use Rattle.std.proofs.Common.{◌≡◌, ◌≢◌, ℕ, zero, suc, ◌+◌, List, [], ◌∷◌, map, Option, None, refl, sym, ap, ◌∙◌, arith}
-use Rattle.std.specs.Prelude.{sum_by, slice_index_or}
-use Rattle.std.proofs.lemmas.List.Sums.{sum_by-cons}
+use Rattle.gateway_loop.proofs.Words.{◌≡◌, ◌≢◌, ℕ, zero, suc, ◌+◌, List, [], ◌∷◌, map, Option, None, refl, sym, ap, ◌∙◌, arith, sum_by, slice_index_or, sum_by-cons}
 
 module _ {A : Type 0} (f : Option A → ℕ) (none : f None ≡ 0) where
   abbrev look : List (Option A) → ℕ → Option A

@@ -125,17 +125,21 @@ loop_value v clients gone told results handed drained = record {
   drained = drained;
 }
 
--- the history explains all of this, if this is what those ended with for whose outcome there was no memory
-pub record IsHeld (unknown : Outcome) (plans : List PlanRecord) (h : History) (moment : ℕ) (l : LoopValue) : Type 0 where
-  pub fits : (i : ℕ) (x : ClientValue) → at i l.clients ≡ Some x → Fits plans h x
-  pub apart : (i j : ℕ) (x y : ClientValue) → at i l.clients ≡ Some x → at j l.clients ≡ Some y → x.conn ≡ y.conn → i ≡ j
-  pub each : (c : ℕ) → count_of c l ≡ one_below c (connections h.opened h.events)
-  pub gone : All (λ (x : ClientValue). HasStood plans h x) l.gone
+-- the history explains all of this but its clients, if this is what those ended with for whose outcome there was no memory
+pub record HoldsRest (unknown : Outcome) (h : History) (moment : ℕ) (l : LoopValue) : Type 0 where
   pub latest_is : moment ≡ latest (moments h.events)
   pub told : HandsIn (reverse l.told) (moments h.events)
   pub results : AllZip (IsResultOf unknown) (results h.events) l.results
   pub handed : h.handed ≡ l.handed
   pub drained : has_drained h.events ≡ l.drained
+
+-- .. and its clients
+pub record IsHeld (unknown : Outcome) (plans : List PlanRecord) (h : History) (moment : ℕ) (l : LoopValue) : Type 0 where
+  pub fits : (i : ℕ) (x : ClientValue) → at i l.clients ≡ Some x → Fits plans h x
+  pub apart : (i j : ℕ) (x y : ClientValue) → at i l.clients ≡ Some x → at j l.clients ≡ Some y → x.conn ≡ y.conn → i ≡ j
+  pub each : (c : ℕ) → count_of c l ≡ one_below c (connections h.opened h.events)
+  pub gone : All (λ (x : ClientValue). HasStood plans h x) l.gone
+  pub rest : HoldsRest unknown h moment l
 
 -- the core stands for a history that does
 pub record IsServing (unknown : Outcome) (v : GatewayValue) (moment : ℕ) (l : LoopValue) : Type 0 where
@@ -153,8 +157,8 @@ pub record Starts (l : LoopValue) : Type 0 where
   pub not_drained : l.drained ≡ false
 
 -- what the one continues the other does too
-abbrev pub Onward : LoopValue → LoopValue → Type 0
-Onward v w = (u : LoopValue) → Continues u v → Continues u w
+pub record Onward (v w : LoopValue) : Type 0 where
+  pub on : (u : LoopValue) → Continues u v → Continues u w
 
 -- the loop was told what the clock told
 abbrev pub Tells : List ℕ → List ℕ → LoopValue → LoopValue → Type 0

@@ -21,8 +21,8 @@ pub record StartsLoop (w : WholeLoop) : Type 0 where
   pub none_ended : w.ended ≡ []
 
 -- what the one continues the other does too
-abbrev pub Goes : WholeLoop → WholeLoop → Type 0
-Goes v w = (u : WholeLoop) → ContinuesLoop u v → ContinuesLoop u w
+pub record Goes (v w : WholeLoop) : Type 0 where
+  pub on : (u : WholeLoop) → ContinuesLoop u v → ContinuesLoop u w
 
 -- the loop was told what the clock told
 abbrev pub TellsLoop : List ℕ → List ℕ → WholeLoop → WholeLoop → Type 0

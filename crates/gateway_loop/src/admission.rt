@@ -1,5 +1,4 @@
 ghost use Rattle.gateway_loop.specs.Loop.{Goes, TellsLoop};
-ghost use Rattle.loop_model.specs.Whole.{ContinuesLoop};
 ghost use Rattle.std.specs.Prelude.{◌≡◌};
 
 use crate::comings::Dealt;
@@ -11,6 +10,7 @@ use gateway_core::ReplyHook;
 use std::collections::VecDeque;
 use wires::Wire;
 
+#[tactic(auto, using(crate::proofs::AskLemmas::going))]
 impl<H: ReplyHook + Drop, W: Wire + Drop> EventLoop<H, W> {
     /// Takes the streams of new connections.
     pub(crate) fn admit_all<N: Network<W>>(
@@ -18,7 +18,7 @@ impl<H: ReplyHook + Drop, W: Wire + Drop> EventLoop<H, W> {
         net: &mut N,
         streams: &mut VecDeque<Dealt<H, W>>,
     )
-        ensures continues { ContinuesLoop self.old self.new }
+        ensures goes { Goes self.old self.new }
         ensures told { TellsLoop (N.told net.old) (N.told net.new) self.old self.new }
     {
         for _stream in 0..streams.len() {

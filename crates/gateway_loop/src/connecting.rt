@@ -13,6 +13,7 @@ use gateway_core::ReplyHook;
 use std::io::ErrorKind;
 use wires::Wire;
 
+#[tactic(auto, using(crate::proofs::AskLemmas::going))]
 impl<H: ReplyHook + Drop, W: Wire + Drop> EventLoop<H, W> {
     /// Connects the exchange in that place to the next of its addresses that does not refuse at once, and writes its request. Where there
     /// is none, it is lost by what is told.

@@ -2,7 +2,6 @@ ghost use Rattle.std.specs.Prelude.{◌≡◌};
 ghost use Rattle.gateway_loop.specs.Loop.{Goes, TellsLoop};
 
 use crate::asking::Progress;
-use crate::branch_end::BranchEnd;
 use crate::event_loop::EventLoop;
 use crate::limits::MOST_EXCHANGES;
 use crate::moments::is_due;
@@ -12,6 +11,7 @@ use branch_exchange::Loss;
 use gateway_core::{CallId, ReplyHook};
 use wires::Wire;
 
+#[tactic(auto, using(crate::proofs::AskLemmas::going))]
 impl<H: ReplyHook + Drop, W: Wire + Drop> EventLoop<H, W> {
     /// Writes and reads the stream of the exchange in that place.
     pub(crate) fn serve_exchange<N: Network<W>>(&mut self, net: &mut N, place: usize)
@@ -76,21 +76,8 @@ impl<H: ReplyHook + Drop, W: Wire + Drop> EventLoop<H, W> {
         self.end(net, place);
     }
 
-    /// Frees all that the exchange in that place has, and records what came of it: the place of its client, and its
-    /// call.
+    /// Frees all that the exchange in that place has, and records what came of it: the place of its client, and its call.
     pub(crate) fn finish(&mut self, place: usize) -> Option<(usize, CallId)>
-        ensures goes { Goes self.old self.new }
-        ensures told { self.new.side.told ≡ self.old.side.told }
-    {
-        let (client, began, end) = self.take_end(place)?;
-        let took = self.clients().moment().saturating_sub(began);
-        let call = end.call();
-        self.keep_end(end, took);
-        Some((client, call))
-    }
-
-    /// The same: the place of its client, the moment at which it began, and what came of it.
-    fn take_end(&mut self, place: usize) -> Option<(usize, u64, BranchEnd)>
         ensures goes { Goes self.old self.new }
         ensures told { self.new.side.told ≡ self.old.side.told }
     {
@@ -103,22 +90,10 @@ impl<H: ReplyHook + Drop, W: Wire + Drop> EventLoop<H, W> {
         if let Some(number) = errand.waits {
             self.names.leave(end.address(), number);
         }
-        Some((errand.client, errand.began, end))
-    }
-
-    /// Keeps what came of a branch, after so many milliseconds, until it is told.
-    fn keep_end(&mut self, end: BranchEnd, took: u64)
-        ensures { self.new ≡ self.old }
-    {
+        let took = self.clients().moment().saturating_sub(errand.began);
+        let call = end.call();
         self.ends.keep(Some(end), took);
-    }
-
-    /// Tells what came of branches.
-    pub(crate) fn tell_ends<N: Network<W>>(&mut self, net: &mut N)
-        ensures goes { Goes self.old self.new }
-        ensures told { TellsLoop (N.told net.old) (N.told net.new) self.old self.new }
-    {
-        self.ends.tell(net);
+        Some((errand.client, call))
     }
 
     /// Gives up the exchanges of the client in that place for which nobody waits any more.

@@ -63,7 +63,6 @@ impl<H: ReplyHook + Drop, W: Wire + Drop> EventLoop<H, W> {
     {
         Ok(EventLoop {
             alloc,
-            exchanges: Exchanges::new(alloc, plans)?,
             hints: Slab::with_capacity(alloc, MOST_CLIENTS)?,
             open: Vec::with_capacity(alloc, MOST_CLIENTS)?,
             errands: Slab::with_capacity(alloc, MOST_EXCHANGES)?,
@@ -74,6 +73,7 @@ impl<H: ReplyHook + Drop, W: Wire + Drop> EventLoop<H, W> {
             noted: VecDeque::with_capacity(alloc, 2 * MOST_CLIENTS)?,
             ends: Ends::new(alloc)?,
             again: false,
+            exchanges: Exchanges::new(alloc, plans)?,
         })
     }
 

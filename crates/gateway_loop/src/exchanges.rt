@@ -48,6 +48,7 @@ impl<H, W: Wire> Model for Exchanges<H, W> {
     ghost invariant = { λ l. AsksFairly (whole_loop l.clients l.asking.slots l.ended.items) };
 }
 
+#[tactic(auto, using(crate::proofs::AskLemmas::goes_side, crate::proofs::AskLemmas::keeps_asking))]
 impl<H: ReplyHook + Drop, W: Wire + Drop> Exchanges<H, W> {
     /// A core that serves these plans, with no client and no job.
     pub(crate) fn new(alloc: Global, plans: Plans) -> Result<Exchanges<H, W>, AllocError>

@@ -10,6 +10,7 @@ use crate::tokens::{Owner, client_token, owner_of, timer_id};
 use gateway_core::ReplyHook;
 use wires::Wire;
 
+#[tactic(auto, using(crate::proofs::AskLemmas::going))]
 impl<H: ReplyHook + Drop, W: Wire + Drop> EventLoop<H, W> {
     /// Closes the connections to which nothing is owed: each of its requests has its reply, and that was written. One whose last bytes
     /// made no request stays: its request may be half read.
@@ -92,7 +93,7 @@ impl<H: ReplyHook + Drop, W: Wire + Drop> EventLoop<H, W> {
     }
 
     /// The client in that place goes, and its stream is closed.
-    fn forget_client(&mut self, place: usize)
+    pub(crate) fn forget_client(&mut self, place: usize)
         ensures goes { Goes self.old self.new }
         ensures told { self.new.side.told ≡ self.old.side.told }
     {
@@ -106,15 +107,6 @@ impl<H: ReplyHook + Drop, W: Wire + Drop> EventLoop<H, W> {
             Some(hints) => hints.edges.may_read,
             None => false,
         }
-    }
-
-    /// The client in that place lingers no more.
-    pub(crate) fn stop_lingering(&mut self, place: usize)
-        ensures goes { Goes self.old self.new }
-        ensures told { self.new.side.told ≡ self.old.side.told }
-    {
-        let _stopped = self.untils.stop(timer_id(client_token(place)));
-        self.forget_client(place);
     }
 
     /// Ends the exchanges whose time is over, and lets go of those that lingered long enough.

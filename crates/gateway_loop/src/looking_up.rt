@@ -13,6 +13,7 @@ use std::collections::VecDeque;
 use std::net::SocketAddr;
 use wires::Wire;
 
+#[tactic(auto, using(crate::proofs::AskLemmas::going))]
 impl<H: ReplyHook + Drop, W: Wire + Drop> EventLoop<H, W> {
     /// Has the address of the exchange in that place looked up.
     pub(crate) fn look_up<N: Network<W>>(&mut self, net: &mut N, place: usize)
@@ -20,7 +21,11 @@ impl<H: ReplyHook + Drop, W: Wire + Drop> EventLoop<H, W> {
         ensures told { TellsLoop (N.told net.old) (N.told net.new) self.old self.new }
     {
         match self.wait_for_name(net, place) {
-            Ok(Waiting::Under(number)) => self.set_waiting(place, number),
+            Ok(Waiting::Under(number)) => {
+                if let Some(errand) = self.errands.get_mut(place) {
+                    errand.waits = Some(number);
+                }
+            }
             Ok(Waiting::Never) => self.lose(net, place, Loss::NoAddress),
             Err(_) => self.starve(net, place),
         }
@@ -39,16 +44,6 @@ impl<H: ReplyHook + Drop, W: Wire + Drop> EventLoop<H, W> {
         match self.exchanges.asking(place) {
             Some(asking) => self.names.wait(net, asking.job().address(), place),
             None => Ok(Waiting::Never),
-        }
-    }
-
-    /// The exchange in that place waits under that number.
-    fn set_waiting(&mut self, place: usize, number: usize)
-        ensures goes { Goes self.old self.new }
-        ensures told { self.new.side.told ≡ self.old.side.told }
-    {
-        if let Some(errand) = self.errands.get_mut(place) {
-            errand.waits = Some(number);
         }
     }
 
@@ -77,21 +72,14 @@ impl<H: ReplyHook + Drop, W: Wire + Drop> EventLoop<H, W> {
     {
         match first_of(self.alloc, looked_up.addresses.as_slice()) {
             Ok(addresses) => {
-                self.find(place, looked_up.name.as_str(), addresses);
+                self.exchanges
+                    .find(place, looked_up.name.as_str(), addresses);
+                if let Some(errand) = self.errands.get_mut(place) {
+                    errand.waits = None;
+                }
                 self.try_next(net, place, Loss::NoAddress);
             }
             Err(_) => self.starve(net, place),
-        }
-    }
-
-    /// These addresses were found for the name, for which the exchange in that place waited. They are to be tried.
-    fn find(&mut self, place: usize, name: &str, found: VecDeque<SocketAddr>)
-        ensures goes { Goes self.old self.new }
-        ensures told { self.new.side.told ≡ self.old.side.told }
-    {
-        self.exchanges.find(place, name, found);
-        if let Some(errand) = self.errands.get_mut(place) {
-            errand.waits = None;
         }
     }
 }

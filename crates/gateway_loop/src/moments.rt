@@ -8,6 +8,7 @@ use crate::network::Network;
 use gateway_core::ReplyHook;
 use wires::Wire;
 
+#[tactic(auto, using(crate::proofs::AskLemmas::going))]
 impl<H: ReplyHook + Drop, W: Wire + Drop> EventLoop<H, W> {
     /// Hands in the present moment, unless that would change nothing: so calls that are due end before anything that is seen later.
     pub(crate) fn tick<N: Network<W>>(&mut self, net: &mut N)

@@ -6,10 +6,11 @@ use crate::comings::Ready;
 use crate::event_loop::EventLoop;
 use crate::network::Network;
 use crate::phase::Phase;
-use crate::tokens::{Owner, client_token, exchange_token, owner_of};
+use crate::tokens::{Owner, client_token, exchange_token, owner_of, timer_id};
 use gateway_core::ReplyHook;
 use wires::Wire;
 
+#[tactic(auto, using(crate::proofs::AskLemmas::going))]
 impl<H: ReplyHook + Drop, W: Wire + Drop> EventLoop<H, W> {
     /// Notes what became possible, and puts those whom it concerns into the line. A token that names nobody changes nothing.
     pub(crate) fn note_ready(&mut self, ready: Ready)
@@ -113,8 +114,8 @@ impl<H: ReplyHook + Drop, W: Wire + Drop> EventLoop<H, W> {
         hints.is_in_line = false;
         let heard = self.read_client(place);
         if heard == Heard::End && self.clients().phase(place) == Some(Phase::Lingers) {
-            self.stop_lingering(place);
-            return;
+            let _stopped = self.untils.stop(timer_id(client_token(place)));
+            return self.forget_client(place);
         }
         self.note_half_read(place, heard);
         if matches!(heard, Heard::Broke | Heard::End) {

@@ -9,6 +9,7 @@ use branch_exchange::Loss;
 use gateway_core::ReplyHook;
 use wires::Wire;
 
+#[tactic(auto, using(crate::proofs::AskLemmas::going))]
 impl<H: ReplyHook + Drop, W: Wire + Drop> EventLoop<H, W> {
     /// Begins to ask for jobs while there are some, and places for them, and at most for so many. Answers for how many.
     pub(crate) fn start_jobs<N: Network<W>>(&mut self, net: &mut N, most: u32) -> u32
@@ -49,7 +50,7 @@ impl<H: ReplyHook + Drop, W: Wire + Drop> EventLoop<H, W> {
         if self.is_over(place) {
             return self.end(net, place);
         }
-        if self.has_address(place) {
+        if self.exchanges.has_address(place) {
             self.try_next(net, place, Loss::NoAddress);
         } else {
             self.look_up(net, place);
@@ -97,13 +98,5 @@ impl<H: ReplyHook + Drop, W: Wire + Drop> EventLoop<H, W> {
             Some(asking) => asking.is_over(),
             None => true,
         }
-    }
-
-    /// Whether the address of the new exchange in that place is no name. It is to be tried then.
-    fn has_address(&mut self, place: usize) -> bool
-        ensures goes { Goes self.old self.new }
-        ensures told { self.new.side.told ≡ self.old.side.told }
-    {
-        self.exchanges.has_address(place)
     }
 }

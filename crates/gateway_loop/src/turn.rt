@@ -10,6 +10,7 @@ use crate::network::Network;
 use gateway_core::ReplyHook;
 use wires::Wire;
 
+#[tactic(auto, using(crate::proofs::AskLemmas::going))]
 impl<H: ReplyHook + Drop, W: Wire + Drop> EventLoop<H, W> {
     /// One turn: takes what the last wait brought, and does what can be done without waiting. `next_turn` tells when another is due.
     pub fn turn<N: Network<W>>(&mut self, net: &mut N, comings: &mut Comings<H, W>)
@@ -18,15 +19,23 @@ impl<H: ReplyHook + Drop, W: Wire + Drop> EventLoop<H, W> {
         ensures ticks { HasTicked self.old.side self.new.side }
     {
         self.tick(net);
+        self.take_comings(net, comings);
+        self.serve_line(net);
+        self.expire(net);
+        self.settle(net);
+    }
+
+    /// Takes what the last wait brought.
+    fn take_comings<N: Network<W>>(&mut self, net: &mut N, comings: &mut Comings<H, W>)
+        ensures goes { Goes self.old self.new }
+        ensures told { TellsLoop (N.told net.old) (N.told net.new) self.old self.new }
+    {
         self.admit_all(net, &mut comings.streams);
         self.take_found(net, &mut comings.found);
         for ready in comings.ready.iter() {
             self.note_ready(*ready);
         }
         comings.ready.clear();
-        self.serve_line(net);
-        self.expire(net);
-        self.settle(net);
     }
 
     /// Begins to ask for the jobs that came, and writes the replies that are there, until neither brings anything more.
@@ -53,7 +62,7 @@ impl<H: ReplyHook + Drop, W: Wire + Drop> EventLoop<H, W> {
         ensures told { TellsLoop (N.told net.old) (N.told net.new) self.old self.new }
     {
         let started = self.start_jobs(net, most);
-        self.tell_ends(net);
+        self.ends.tell(net);
         started
     }
 }

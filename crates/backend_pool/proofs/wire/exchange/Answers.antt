@@ -1,4 +1,4 @@
-use Rattle.std.proofs.Common.{◌++◌, take, sym, ◌∙◌}
+use Rattle.backend_pool.proofs.Names.{◌++◌, take, sym, ◌∙◌}
 use Rattle.std.proofs.KnownBytes.{Consumes-trans}
 use Rattle.backend_pool.proofs.ExchangeLemmas.{reply_begins}
 use Rattle.backend_pool.proofs.wire.exchange.Goals as goal

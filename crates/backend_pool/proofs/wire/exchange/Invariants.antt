@@ -1,5 +1,4 @@
-use Rattle.std.proofs.Common.{ℕ, List}
-use Rattle.std.specs.Prelude.{None}
+use Rattle.backend_pool.proofs.Names.{ℕ, List, None}
 use Rattle.std.specs.Io.KnownBytes.{Appends, Consumes}
 use Rattle.http_pieces.specs.ReplyReader.{HasReadReply}
 use Rattle.backend_pool.proofs.wire.exchange.Given as goal

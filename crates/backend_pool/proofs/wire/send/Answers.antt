@@ -1,4 +1,4 @@
-use Rattle.std.proofs.Common.{refl}
+use Rattle.backend_pool.proofs.Names.{refl}
 use Rattle.backend_pool.proofs.ExchangeLemmas.{sends_more, sends_none}
 use Rattle.backend_pool.proofs.wire.send.Goals as goal
 

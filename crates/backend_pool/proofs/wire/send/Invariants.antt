@@ -1,4 +1,4 @@
-use Rattle.std.proofs.Common.{◌≡◌, length}
+use Rattle.backend_pool.proofs.Names.{◌≡◌, length}
 use Rattle.backend_pool.specs.Exchange.{SendsOn}
 use Rattle.backend_pool.proofs.wire.send.Given as goal
 

@@ -1,4 +1,4 @@
-use Rattle.std.proofs.Common.{rules, arith}
+use Rattle.connections.proofs.Names.{rules, arith}
 use Rattle.connections.proofs.PumpLemmas.{Pumps-refl, Pumps-more, Pumps-most}
 use Rattle.connections.proofs.pumping.give_pieces.Goals as goal
 

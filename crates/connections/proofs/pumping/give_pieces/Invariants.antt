@@ -1,4 +1,4 @@
-use Rattle.std.proofs.Common.{[]}
+use Rattle.connections.proofs.Names.{[]}
 use Rattle.connections.specs.Pumps.{Pumps}
 use Rattle.connections.specs.declared.inlet.Fed.TheVariants.{Go}
 use Rattle.connections.proofs.pumping.give_pieces.Given as goal

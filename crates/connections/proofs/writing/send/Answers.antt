@@ -1,4 +1,4 @@
-use Rattle.std.proofs.Common.{rules}
+use Rattle.connections.proofs.Names.{rules}
 use Rattle.connections.proofs.WriteLemmas.{Appends-more}
 use Rattle.connections.proofs.writing.send.Goals as goal
 

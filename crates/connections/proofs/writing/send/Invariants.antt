@@ -1,5 +1,4 @@
-use Rattle.std.proofs.Common.{length, take, ◌-◌, ◌≤◌}
-use Rattle.std.specs.Io.KnownBytes.{Appends}
+use Rattle.connections.proofs.Names.{length, take, ◌-◌, ◌≤◌, Appends}
 use Rattle.connections.proofs.writing.send.Given as goal
 
 -- the first bytes are written

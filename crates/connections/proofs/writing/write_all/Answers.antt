@@ -1,4 +1,4 @@
-use Rattle.std.proofs.Common.{arith, ◌++◌, [], refl, sym, ap, ◌∙◌, append-nil, append_assoc, length-append}
+use Rattle.connections.proofs.Names.{arith, ◌++◌, [], refl, sym, ap, ◌∙◌, append-nil, append_assoc, length-append}
 use Rattle.connections.proofs.WriteLemmas.{Writes-refl, Writes-join, Writes-on}
 use Rattle.connections.proofs.writing.write_all.Goals as goal
 

@@ -1,6 +1,5 @@
-use Rattle.std.proofs.Common.{◌≡◌, ◌++◌, List, [], length}
+use Rattle.connections.proofs.Names.{◌≡◌, ◌++◌, List, [], length, Writes, NotYet}
 use Rattle.gateway_theory.specs.Replies.{ReplyValue}
-use Rattle.connections.specs.Writes.{Writes, NotYet}
 use Rattle.connections.proofs.writing.write_all.Given as goal
 
 -- what was given so far is written whole, and kept

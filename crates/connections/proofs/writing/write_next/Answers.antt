@@ -1,9 +1,5 @@
-use Rattle.std.proofs.Common.{rules, arith, ◌≡◌, ◌<◌, ◌≤◌, ◌++◌, [], ◌∷◌, length, refl, sym, ap, ◌∙◌, false, nat_eq, append-nil}
-use Rattle.std.proofs.lemmas.Grind.{common_steps}
-use Rattle.std.specs.Prelude.{take}
-use Rattle.std.specs.Io.KnownBytes.{Appends}
+use Rattle.connections.proofs.Names.{rules, arith, ◌≡◌, ◌<◌, ◌≤◌, ◌++◌, [], ◌∷◌, length, refl, sym, ap, ◌∙◌, false, nat_eq, append-nil, common_steps, take, Appends, IsOver, Unwritten, CutShort, bytes_of}
 use Rattle.gateway_model.specs.Past.{call_id}
-use Rattle.connections.specs.Writes.{IsOver, Unwritten, CutShort, bytes_of}
 use Rattle.connections.proofs.WriteLemmas.{Writes-over, Writes-none, Writes-part}
 use Rattle.connections.proofs.writing.write_next.Goals.{then-ne-via-then-ne, then-ne-via-else-ne+then-is_err}
 use Rattle.connections.proofs.writing.write_next.Goals as goal

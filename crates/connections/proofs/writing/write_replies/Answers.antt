@@ -1,4 +1,4 @@
-use Rattle.std.proofs.Common.{◌≡◌, ◌++◌, ap, ◌∙◌}
+use Rattle.connections.proofs.Names.{◌≡◌, ◌++◌, ap, ◌∙◌}
 use Rattle.connections.proofs.WriteLemmas.{Writes-then}
 use Rattle.connections.proofs.writing.write_replies.Goals as goal
 

@@ -1,5 +1,4 @@
-use Rattle.std.proofs.Common.{◌∙◌, ap, arith, length, sym}
-use Rattle.loop_model.specs.Clients.{ClientValue}
+use Rattle.gateway_loop.proofs.Words.{◌∙◌, ap, arith, length, sym, ClientValue}
 use Rattle.gateway_loop.proofs.GrowLemmas.{count_of, counted, nothing_more, one_less, passed_over}
 use Rattle.gateway_loop.proofs.clients.lingering_among.Goals as goal
 

@@ -1,6 +1,4 @@
-use Rattle.std.proofs.Common.{◌≡◌, ◌+◌, ◌≤◌, length}
-use Rattle.loop_model.specs.Clients.{ClientValue}
-use Rattle.slab.specs.Slab.{entries, slab_len}
+use Rattle.gateway_loop.proofs.Words.{◌≡◌, ◌+◌, ◌≤◌, length, ClientValue, entries, slab_len}
 use Rattle.gateway_loop.proofs.GrowLemmas.{count_of}
 use Rattle.gateway_loop.proofs.clients.lingering_among.Given as goal
 

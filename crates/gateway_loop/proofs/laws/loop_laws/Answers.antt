@@ -1,4 +1,4 @@
-use Rattle.std.proofs.Common.{◌∙◌}
+use Rattle.gateway_loop.proofs.Words.{◌∙◌}
 use Rattle.gateway_loop.proofs.laws.loop_laws.Goals as goal
 
 pub returns : goal.returns

@@ -1,21 +1,14 @@
-use Rattle.std.proofs.Common.{[], refl, arith, false, true, ◌∷◌}
-use Rattle.gateway_model.specs.declared.event.Event.TheVariants.{Closing}
-use Rattle.backend_pool.proofs.BookLemmas.{reached_by, takes_event, core_keeps}
-use Rattle.std.specs.Prelude.{◌==◌}
+use Rattle.backend_pool.proofs.Names.{[], refl, arith, Closing, after_event}
+use Rattle.backend_pool.proofs.BookLemmas.{reached, takes_event}
 use Rattle.backend_pool.proofs.book.Book.closing.Goals as goal
 
 pub invariant_of-self : goal.invariant_of-self
 invariant_of-self g c =
-    let book = c.self.inside in
-    reached_by (Closing c.args.conn) book.core c.close.new.self book.bytes book.jobs book.results book.bytes book.results c.close.ensures.stands ([], refl, c.close.ensures.keeps.tally_is) (omega arith) (omega arith) c.self.invariant
+    reached _ _ (after_event (Closing c.args.conn)) c.self.invariant (takes_event _ _ (Closing c.args.conn) c.close.ensures.stands ([], refl, c.close.ensures.keeps.tally_is) (omega arith) (omega arith) (omega arith))
 
 pub returns-clause-stands : goal.returns-clause-stands
 returns-clause-stands g c =
-    let book = c.self.inside in
-    takes_event (Closing c.args.conn) c.args.self.now book.core c.close.new.self book.bytes book.jobs book.results book.bytes book.results c.self.view_is c.close.ensures.stands ([], refl, c.close.ensures.keeps.tally_is) (omega arith)
-    (omega arith)
+    rw (← c.self.view_is) (takes_event _ _ (Closing c.args.conn) c.close.ensures.stands ([], refl, c.close.ensures.keeps.tally_is) (omega arith) (omega arith) (omega arith))
 
 pub returns-clause-keeps : goal.returns-clause-keeps
-returns-clause-keeps g c =
-    let book = c.self.inside in
-    core_keeps (λ n. n == c.args.conn) (λ n. false) [] c.args.self.now book.core c.close.new.self book.bytes book.jobs book.results c.self.view_is c.close.ensures.keeps
+returns-clause-keeps g c = rw (← c.self.view_is) c.close.ensures.keeps

@@ -1,21 +1,14 @@
-use Rattle.std.proofs.Common.{[], refl, arith, false, true, ◌∷◌}
-use Rattle.gateway_model.specs.declared.event.Event.TheVariants.{HangUp}
-use Rattle.backend_pool.proofs.BookLemmas.{reached_by, takes_event, core_keeps}
-use Rattle.std.specs.Prelude.{◌==◌}
+use Rattle.backend_pool.proofs.Names.{[], refl, arith, HangUp, after_event}
+use Rattle.backend_pool.proofs.BookLemmas.{reached, takes_event}
 use Rattle.backend_pool.proofs.book.Book.hang_up.Goals as goal
 
 pub invariant_of-self : goal.invariant_of-self
 invariant_of-self g c =
-    let book = c.self.inside in
-    reached_by (HangUp c.args.conn) book.core c.hang_up.new.self book.bytes book.jobs book.results book.bytes book.results c.hang_up.ensures.stands ([], refl, c.hang_up.ensures.keeps.tally_is) (omega arith) (omega arith) c.self.invariant
+    reached _ _ (after_event (HangUp c.args.conn)) c.self.invariant (takes_event _ _ (HangUp c.args.conn) c.hang_up.ensures.stands ([], refl, c.hang_up.ensures.keeps.tally_is) (omega arith) (omega arith) (omega arith))
 
 pub returns-clause-stands : goal.returns-clause-stands
 returns-clause-stands g c =
-    let book = c.self.inside in
-    takes_event (HangUp c.args.conn) c.args.self.now book.core c.hang_up.new.self book.bytes book.jobs book.results book.bytes book.results c.self.view_is c.hang_up.ensures.stands ([], refl, c.hang_up.ensures.keeps.tally_is) (omega arith)
-    (omega arith)
+    rw (← c.self.view_is) (takes_event _ _ (HangUp c.args.conn) c.hang_up.ensures.stands ([], refl, c.hang_up.ensures.keeps.tally_is) (omega arith) (omega arith) (omega arith))
 
 pub returns-clause-keeps : goal.returns-clause-keeps
-returns-clause-keeps g c =
-    let book = c.self.inside in
-    core_keeps (λ n. false) (λ n. n == c.args.conn) [] c.args.self.now book.core c.hang_up.new.self book.bytes book.jobs book.results c.self.view_is c.hang_up.ensures.keeps
+returns-clause-keeps g c = rw (← c.self.view_is) c.hang_up.ensures.keeps

@@ -1,23 +1,19 @@
-use Rattle.std.proofs.Common.{[], refl, false, true, ◌∷◌}
-use Rattle.backend_pool.proofs.BookLemmas.{book_opens, reached_by_opening, served_in, core_keeps}
+use Rattle.backend_pool.proofs.Names.{[], refl, arith}
+use Rattle.backend_pool.proofs.BookLemmas.{reached_opening, takes_opening}
 use Rattle.backend_pool.proofs.book.Book.opening.Goals as goal
 
 pub invariant_of-self : goal.invariant_of-self
 invariant_of-self g c =
-    let book = c.self.inside in
-    reached_by_opening c.open_conn.result book.core c.open_conn.new.self book.bytes book.jobs book.results c.open_conn.ensures.stands ([], refl, c.open_conn.ensures.keeps.tally_is) c.self.invariant
+    reached_opening _ _ _ c.self.invariant
+    (takes_opening _ _ c.open_conn.result c.open_conn.ensures.stands ([], refl, c.open_conn.ensures.keeps.tally_is) (omega arith) (omega arith) (omega arith))
 
 pub returns-clause-stands : goal.returns-clause-stands
 returns-clause-stands g c =
-    let book = c.self.inside in
-    book_opens c.open_conn.result c.args.self.now book.core c.open_conn.new.self book.bytes book.jobs book.results c.self.view_is c.open_conn.ensures.stands ([], refl, c.open_conn.ensures.keeps.tally_is)
+    rw (← c.self.view_is)
+    (takes_opening _ _ c.open_conn.result c.open_conn.ensures.stands ([], refl, c.open_conn.ensures.keeps.tally_is) (omega arith) (omega arith) (omega arith))
 
 pub returns-clause-few : goal.returns-clause-few
-returns-clause-few g c = λ history h.
-    let book = c.self.inside in
-    c.open_conn.ensures.few history (served_in c.args.self.now book.core book.bytes book.jobs book.results history c.self.view_is h)
+returns-clause-few g c = rw (← c.self.view_is) (λ history h. c.open_conn.ensures.few history h.served)
 
 pub returns-clause-keeps : goal.returns-clause-keeps
-returns-clause-keeps g c =
-    let book = c.self.inside in
-    core_keeps (λ n. false) (λ n. false) [] c.args.self.now book.core c.open_conn.new.self book.bytes book.jobs book.results c.self.view_is c.open_conn.ensures.keeps
+returns-clause-keeps g c = rw (← c.self.view_is) c.open_conn.ensures.keeps

@@ -1,28 +1,17 @@
-use Rattle.std.proofs.Common.{[], ◌∷◌, refl, arith, subst, false, true}
-use Rattle.gateway_model.specs.declared.event.Event.TheVariants.{BranchResult}
-use Rattle.gateway_theory.specs.Told.{TellsTook}
-use Rattle.backend_pool.specs.Book.{BookValue}
-use Rattle.backend_pool.proofs.BookLemmas.{reached_by, takes_event, core_keeps}
-use Rattle.std.specs.Prelude.{◌==◌}
+use Rattle.backend_pool.proofs.Names.{[], ◌∷◌, refl, arith, BranchResult, after_event}
+use Rattle.backend_pool.proofs.BookLemmas.{reached, takes_event}
 use Rattle.backend_pool.proofs.book.Book.result.Goals as goal
 
 pub invariant_of-self : goal.invariant_of-self
 invariant_of-self g c =
-    let book = c.self.inside in
-    reached_by (BranchResult c.args.call.now.conn c.args.call.now.request c.args.branch c.args.outcome) book.core c.result.new.self book.bytes book.jobs book.results book.bytes c.add.new.self
-    c.result.ensures.stands (c.result.result.seen ∷ [], refl, c.result.ensures.keeps.tally_is) (omega arith) (omega arith) c.self.invariant
+    reached _ _ (after_event (BranchResult c.args.call.now.conn c.args.call.now.request c.args.branch c.args.outcome)) c.self.invariant (takes_event _ _ (BranchResult c.args.call.now.conn c.args.call.now.request c.args.branch c.args.outcome) c.result.ensures.stands (c.result.result.seen ∷ [], refl, c.result.ensures.keeps.tally_is) (omega arith) (omega arith) (omega arith))
 
 pub returns-clause-stands : goal.returns-clause-stands
 returns-clause-stands g c =
-    let book = c.self.inside in
-    takes_event (BranchResult c.args.call.now.conn c.args.call.now.request c.args.branch c.args.outcome) c.args.self.now book.core c.result.new.self book.bytes book.jobs book.results book.bytes c.add.new.self
-    c.self.view_is c.result.ensures.stands (c.result.result.seen ∷ [], refl, c.result.ensures.keeps.tally_is) (omega arith) (omega arith)
-
-pub returns-clause-tells : goal.returns-clause-tells
-returns-clause-tells g c =
-    subst (λ (x : BookValue). TellsTook c.args.call.now c.args.branch c.result.result x.core c.result.new.self) c.self.view_is c.result.ensures.tells
+    rw (← c.self.view_is) (takes_event _ _ (BranchResult c.args.call.now.conn c.args.call.now.request c.args.branch c.args.outcome) c.result.ensures.stands (c.result.result.seen ∷ [], refl, c.result.ensures.keeps.tally_is) (omega arith) (omega arith) (omega arith))
 
 pub returns-clause-keeps : goal.returns-clause-keeps
-returns-clause-keeps g c =
-    let book = c.self.inside in
-    core_keeps (λ n. false) (λ n. n == c.args.call.now.conn) (c.result.result.seen ∷ []) c.args.self.now book.core c.result.new.self book.bytes book.jobs book.results c.self.view_is c.result.ensures.keeps
+returns-clause-keeps g c = rw (← c.self.view_is) c.result.ensures.keeps
+
+pub returns-clause-tells : goal.returns-clause-tells
+returns-clause-tells g c = rw (← c.self.view_is) c.result.ensures.tells

@@ -1,13 +1,16 @@
-use Rattle.backend_pool.proofs.BookLemmas.{book_replies, no_result, reached_by_reply}
+use Rattle.backend_pool.proofs.Names.{arith}
+use Rattle.gateway_theory.specs.Served.{after_reply}
+use Rattle.backend_pool.proofs.BookLemmas.{hands_reply, no_result, reached}
 use Rattle.backend_pool.proofs.book.Book.take_reply.Goals as goal
 
 pub invariant_of-self : goal.invariant_of-self
 invariant_of-self g c =
-    let book = c.self.inside in
-    reached_by_reply c.args.conn c.take_reply-reply.result book.core c.take_reply-reply.new.self book.bytes book.jobs book.results c.take_reply-reply.ensures.stands (no_result book.core c.take_reply-reply.new.self c.take_reply-reply.ensures.only.tally_is) c.self.invariant
+    let r = c.take_reply-reply in
+    reached _ _ (after_reply c.args.conn r.result) c.self.invariant
+    (hands_reply _ _ c.args.conn r.result r.ensures.stands (no_result c.self.inside.core r.new.self r.ensures.only.tally_is) (omega arith) (omega arith) (omega arith))
 
 pub returns-clause-stands : goal.returns-clause-stands
 returns-clause-stands g c =
-    let book = c.self.inside in
-    book_replies c.args.conn c.take_reply-reply.result _ c.args.self.now book.core c.take_reply-reply.new.self book.bytes book.jobs book.results c.of.ensures.given c.self.view_is
-    c.take_reply-reply.ensures.stands (no_result book.core c.take_reply-reply.new.self c.take_reply-reply.ensures.only.tally_is)
+    let r = c.take_reply-reply in
+    rw (c.of.ensures.given, ← c.self.view_is)
+    (hands_reply _ _ c.args.conn r.result r.ensures.stands (no_result c.self.inside.core r.new.self r.ensures.only.tally_is) (omega arith) (omega arith) (omega arith))

@@ -1,4 +1,4 @@
-use Rattle.std.proofs.Common.{◌≡◌}
+use Rattle.backend_pool.proofs.Names.{◌≡◌}
 use Rattle.backend_pool.proofs.lock_desk.LockDeskDesk.next.Given as goal
 
 -- nothing was taken yet

@@ -1,4 +1,4 @@
-use Rattle.std.proofs.Common.{sym, ◌∙◌}
+use Rattle.gateway_loop.proofs.Words.{sym, ◌∙◌}
 use Rattle.gateway_loop.proofs.BegunLemmas.{begun_connects, noted_untouched}
 use Rattle.gateway_loop.proofs.asking.Asking.connect.Goals as goal
 

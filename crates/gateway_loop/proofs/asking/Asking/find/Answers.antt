@@ -1,6 +1,4 @@
-use Rattle.std.proofs.Common.{sym, subst}
-use Rattle.loop_model.specs.Asking.{IsAddressOf}
-use Rattle.gateway_loop.specs.Addresses.{AddressesValue}
+use Rattle.gateway_loop.proofs.Words.{sym, subst, IsAddressOf, AddressesValue}
 use Rattle.gateway_loop.proofs.AddressLemmas.{found_are, more_of}
 use Rattle.gateway_loop.proofs.BegunLemmas.{begun_addresses}
 use Rattle.gateway_loop.proofs.asking.Asking.find.Goals as goal

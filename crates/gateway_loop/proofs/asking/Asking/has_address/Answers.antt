@@ -1,6 +1,4 @@
-use Rattle.std.proofs.Common.{List, sym, subst}
-use Rattle.std.specs.declared.net.socket_addr.SocketAddr.{SocketAddr}
-use Rattle.loop_model.specs.Asking.{IsAddressOf}
+use Rattle.gateway_loop.proofs.Words.{List, sym, subst, SocketAddr, IsAddressOf}
 use Rattle.gateway_loop.proofs.AddressLemmas.{tried_are, tried_found}
 use Rattle.gateway_loop.proofs.BegunLemmas.{begun_addresses}
 use Rattle.gateway_loop.proofs.asking.Asking.has_address.Goals as goal

@@ -1,4 +1,4 @@
-use Rattle.std.proofs.Common.{sym, ◌∙◌}
+use Rattle.gateway_loop.proofs.Words.{sym, ◌∙◌}
 use Rattle.gateway_loop.proofs.BegunLemmas.{begun_ends, begun_on}
 use Rattle.gateway_loop.proofs.asking.Asking.step.Goals as goal
 

@@ -1,5 +1,4 @@
-use Rattle.std.proofs.Common.{[], Some, ap, append-nil, sym, ◌∙◌}
-use Rattle.loop_model.specs.Asking.{StreamValue}
+use Rattle.gateway_loop.proofs.Words.{[], Some, ap, append-nil, sym, ◌∙◌, StreamValue}
 use Rattle.gateway_loop.proofs.attempt.Attempt.send.Goals as goal
 
 pub returns-in-Bytes-clause-grows : goal.returns-in-Bytes-clause-grows

@@ -1,5 +1,4 @@
-use Rattle.std.proofs.Common.{ℕ, List}
-use Rattle.gateway_loop.specs.Asking.{Asks, HasGrown}
+use Rattle.gateway_loop.proofs.Words.{ℕ, List, Asks, HasGrown}
 use Rattle.gateway_loop.proofs.attempt.Attempt.step.Given as goal
 
 -- it goes on, and nothing is forgotten

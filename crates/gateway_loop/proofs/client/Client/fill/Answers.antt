@@ -1,7 +1,4 @@
-use Rattle.std.proofs.Common.{◌≡◌, [], refl, rules, sym, ap, ◌∙◌}
-use Rattle.std.specs.Prelude.{Some}
-use Rattle.loop_model.specs.Clients.{ClientValue}
-use Rattle.gateway_loop.specs.Clients.{lingers_in}
+use Rattle.gateway_loop.proofs.Words.{◌≡◌, [], refl, rules, sym, ap, ◌∙◌, Some, ClientValue, lingers_in}
 use Rattle.gateway_loop.proofs.StepLemmas.{fits_reply, steps_reply}
 use Rattle.gateway_loop.proofs.client.Client.fill.Goals as goal
 

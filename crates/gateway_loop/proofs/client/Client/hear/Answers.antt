@@ -1,6 +1,4 @@
-use Rattle.std.proofs.Common.{ap, refl, take}
-use Rattle.gateway_model.specs.declared.event.Event.TheVariants.{HangUp, Piece}
-use Rattle.gateway_loop.specs.Clients.{lingers_in}
+use Rattle.gateway_loop.proofs.Words.{ap, refl, take, HangUp, Piece, lingers_in}
 use Rattle.gateway_loop.proofs.GrowLemmas.{grows_by, no_more}
 use Rattle.gateway_loop.proofs.LeadLemmas.{hang_up_elsewhere, piece_elsewhere}
 use Rattle.gateway_loop.proofs.StepLemmas.{fits_hang_up, fits_piece, steps_event}

@@ -1,4 +1,4 @@
-use Rattle.std.proofs.Common.{◌∙◌}
+use Rattle.gateway_loop.proofs.Words.{◌∙◌}
 use Rattle.gateway_loop.proofs.GrowLemmas.{grows_then}
 use Rattle.gateway_loop.proofs.StepLemmas.{steps_fit, steps_then}
 use Rattle.gateway_loop.proofs.client.Client.write.Goals as goal

@@ -1,6 +1,4 @@
-use Rattle.std.proofs.Common.{◌≡◌}
-use Rattle.loop_model.specs.Growing.{Grows}
-use Rattle.gateway_loop.specs.Clients.{MakesSteps}
+use Rattle.gateway_loop.proofs.Words.{◌≡◌, Grows, MakesSteps}
 use Rattle.gateway_loop.proofs.client.Client.write.Given as goal
 
 -- steps were made

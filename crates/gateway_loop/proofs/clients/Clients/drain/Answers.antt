@@ -1,4 +1,4 @@
-use Rattle.std.proofs.Common.{refl}
+use Rattle.gateway_loop.proofs.Words.{refl}
 use Rattle.gateway_loop.proofs.GrowLemmas.{begins_same, continues_all, onward}
 use Rattle.gateway_loop.proofs.ServingLemmas.{serving_drain}
 use Rattle.gateway_loop.proofs.clients.Clients.drain.Goals as goal

@@ -1,4 +1,4 @@
-use Rattle.std.proofs.Common.{refl}
+use Rattle.gateway_loop.proofs.Words.{refl}
 use Rattle.gateway_loop.proofs.ServingLemmas.{explained}
 use Rattle.gateway_loop.proofs.clients.Clients.explained_law.Goals as goal
 

@@ -1,5 +1,4 @@
-use Rattle.std.proofs.Common.{◌∙◌}
-use Rattle.loop_model.specs.Clients.{ClientValue}
+use Rattle.gateway_loop.proofs.Words.{◌∙◌, ClientValue}
 use Rattle.gateway_loop.proofs.GrowLemmas.{count_entries}
 use Rattle.gateway_loop.proofs.clients.Clients.lingering.Goals as goal
 

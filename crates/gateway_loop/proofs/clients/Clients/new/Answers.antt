@@ -1,4 +1,4 @@
-use Rattle.std.proofs.Common.{ap, map, refl}
+use Rattle.gateway_loop.proofs.Words.{ap, map, refl}
 use Rattle.gateway_loop.proofs.ServingLemmas.{serving_new}
 use Rattle.gateway_loop.proofs.clients.Clients.new.Goals as goal
 

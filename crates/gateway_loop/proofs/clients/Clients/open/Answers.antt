@@ -1,9 +1,6 @@
-use Rattle.std.proofs.Common.{◌≡◌, List, Option, Some, ap, refl, sym, subst, ◌∙◌}
-use Rattle.slab.specs.Slab.{Slab}
-use Rattle.loop_model.specs.Clients.{ClientValue}
-use Rattle.loop_model.specs.Explained.{at}
+use Rattle.gateway_loop.proofs.Words.{◌≡◌, List, Option, Some, ap, refl, sym, subst, ◌∙◌, Slab, ClientValue, at}
 use Rattle.gateway_loop.proofs.GrowLemmas.{continues_come, onward}
-use Rattle.gateway_loop.proofs.LoopLemmas.{Puts, puts_one}
+use Rattle.gateway_loop.proofs.Places.{Put, put_one}
 use Rattle.gateway_loop.proofs.ServingLemmas.{serving_comes}
 use Rattle.gateway_loop.proofs.clients.Clients.open.Goals as goal
 
@@ -13,12 +10,12 @@ invariant_of-self-2 g c u =
     let put = c.insert_reserved-place in
     let parts = c.into_parts-wire in
     let slots : c.reserve.new.self.slots ≡ i.clients.slots = ap (λ (s : Slab ClientValue). s.slots) c.reserve.ensures.rest_kept in
-    let puts = puts_one c.reserve.new.self put.new.self put.result (Some c.new.result) put.ensures.updates in
+    let puts = put_one c.reserve.new.self put.new.self put.result (Some c.new.result) put.ensures.updates in
     serving_comes u c.loop_laws.ensures i.core c.open_conn.new.self i.moment _ _ c.open_conn.ensures.keeps.plans_are put.result c.in-Ok.conn
     (g.W.Wire.given parts.result.0) (g.W.Wire.got parts.result.0) (g.W.Wire.ended parts.result.0) c.in-Ok.ensures.number parts.ensures.given_none parts.ensures.got_none parts.ensures.goes_on c.in-Ok.ensures.stands
     (sym (ap (λ (old : List (Option ClientValue)). at put.result old) slots) ∙ put.ensures.was_vacant)
-    (subst (λ (y : ClientValue). Puts i.clients.slots put.new.self.slots put.result (Some y)) c.new.ensures
-    (subst (λ (old : List (Option ClientValue)). Puts old put.new.self.slots put.result (Some c.new.result)) slots puts))
+    (subst (λ (y : ClientValue). Put i.clients.slots put.new.self.slots put.result (Some y)) c.new.ensures
+    (subst (λ (old : List (Option ClientValue)). Put old put.new.self.slots put.result (Some c.new.result)) slots puts))
     refl record { told = refl; results = refl; handed = refl; drained = refl } (c.self.invariant u)
 
 pub returns-clause-goes : goal.returns-clause-goes
@@ -26,7 +23,7 @@ returns-clause-goes g c =
     let i = c.self.inside in
     let put = c.insert_reserved-place in
     let slots : c.reserve.new.self.slots ≡ i.clients.slots = ap (λ (s : Slab ClientValue). s.slots) c.reserve.ensures.rest_kept in
-    let puts = puts_one c.reserve.new.self put.new.self put.result (Some c.new.result) put.ensures.updates in
+    let puts = put_one c.reserve.new.self put.new.self put.result (Some c.new.result) put.ensures.updates in
     rw (← c.self.view_is)
     (onward _ _ (continues_come _ _ c.open_conn.ensures.keeps.plans_are refl refl refl refl put.result c.new.result (sym (ap (λ (old : List (Option ClientValue)). at put.result old) slots) ∙ put.ensures.was_vacant)
-    (subst (λ (old : List (Option ClientValue)). Puts old put.new.self.slots put.result (Some c.new.result)) slots puts) refl))
+    (subst (λ (old : List (Option ClientValue)). Put old put.new.self.slots put.result (Some c.new.result)) slots puts) refl))

@@ -1,6 +1,6 @@
-use Rattle.std.proofs.Common.{refl, sym}
+use Rattle.gateway_loop.proofs.Words.{refl, sym}
 use Rattle.gateway_loop.proofs.GrowLemmas.{continues_put, onward}
-use Rattle.gateway_loop.proofs.LoopLemmas.{puts_back}
+use Rattle.gateway_loop.proofs.Places.{put_back}
 use Rattle.gateway_loop.proofs.ServingLemmas.{serving_steps}
 use Rattle.gateway_loop.proofs.clients.Clients.read.Goals as goal
 
@@ -9,7 +9,7 @@ invariant_of-self-2 g c u =
     let i = c.self.inside in
     let put = c.insert_reserved-place in
     serving_steps u c.loop_laws.ensures i.core c.read-heard.new.core i.moment _ _ c.args.place c.in-Some.client c.read-heard.new.self (sym c.in-Some.ensures.value) c.read-heard.ensures.steps
-    (puts_back i.clients c.try_remove.new.self put.new.self c.args.place put.result _ c.try_remove.ensures.updates c.in-Some.ensures.key_is_next put.ensures.key put.ensures.updates)
+    (put_back i.clients c.try_remove.new.self put.new.self c.args.place put.result _ c.try_remove.ensures.updates c.in-Some.ensures.key_is_next put.ensures.key put.ensures.updates)
     refl record { told = refl; results = refl; handed = refl; drained = refl } (c.self.invariant u)
 
 pub returns-clause-goes : goal.returns-clause-goes
@@ -18,4 +18,4 @@ returns-clause-goes g c =
     let put = c.insert_reserved-place in
     rw (← c.self.view_is)
     (onward _ _ (continues_put _ _ c.read-heard.ensures.steps.plans refl refl refl refl c.args.place c.in-Some.client c.read-heard.new.self (sym c.in-Some.ensures.value) c.read-heard.ensures.grows
-    (puts_back i.clients c.try_remove.new.self put.new.self c.args.place put.result _ c.try_remove.ensures.updates c.in-Some.ensures.key_is_next put.ensures.key put.ensures.updates) refl))
+    (put_back i.clients c.try_remove.new.self put.new.self c.args.place put.result _ c.try_remove.ensures.updates c.in-Some.ensures.key_is_next put.ensures.key put.ensures.updates) refl))

@@ -1,5 +1,4 @@
-use Rattle.std.proofs.Common.{[], ◌∷◌, ap, append-nil, refl, sym}
-use Rattle.gateway_theory.specs.Values.{GatewayValue}
+use Rattle.gateway_loop.proofs.Words.{[], ◌∷◌, ap, append-nil, refl, sym, GatewayValue}
 use Rattle.gateway_loop.proofs.GrowLemmas.{begins_by, begins_same, continues_all, noted_job, onward}
 use Rattle.gateway_loop.proofs.ServingLemmas.{serving_jobs}
 use Rattle.gateway_loop.proofs.clients.Clients.take_job.Goals as goal
@@ -7,13 +6,13 @@ use Rattle.gateway_loop.proofs.clients.Clients.take_job.Goals as goal
 pub invariant_of-self : goal.invariant_of-self
 invariant_of-self g c u =
     let i = c.self.inside in
-    serving_jobs u c.loop_laws.ensures i.core c.take_job.new.self i.moment _ _ (ap (λ (v : GatewayValue). v.plans) c.take_job.ensures.rest) (c.in-Some.job.job ∷ []) refl refl refl refl
-    (noted_job i.handed.items c.and-self-inside.result.items _ _ c.and-self-inside.ensures) refl c.in-Some.ensures.stands (c.self.invariant u)
+    serving_jobs u c.loop_laws.ensures i.core c.take_job.new.self i.moment _ _ (ap (λ (v : GatewayValue). v.plans) c.take_job.ensures.rest) (c.in-Some.job.job ∷ []) refl refl
+    record { told = refl; results = refl; handed = noted_job i.handed.items c.and-self-inside.result.items _ _ c.and-self-inside.ensures; drained = refl } c.in-Some.ensures.stands (c.self.invariant u)
 
 pub invariant_of-self-in-None : goal.invariant_of-self-in-None
 invariant_of-self-in-None g c u =
     let i = c.self.inside in
-    serving_jobs u c.loop_laws.ensures i.core c.take_job.new.self i.moment _ _ (ap (λ (v : GatewayValue). v.plans) c.take_job.ensures.rest) [] refl refl refl refl (sym (append-nil _)) refl c.in-None.ensures.stands (c.self.invariant u)
+    serving_jobs u c.loop_laws.ensures i.core c.take_job.new.self i.moment _ _ (ap (λ (v : GatewayValue). v.plans) c.take_job.ensures.rest) [] refl refl record { told = refl; results = refl; handed = sym (append-nil _); drained = refl } c.in-None.ensures.stands (c.self.invariant u)
 
 pub returns-in-Some-clause-goes : goal.returns-in-Some-clause-goes
 returns-in-Some-clause-goes g c =

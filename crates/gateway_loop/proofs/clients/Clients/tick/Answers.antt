@@ -1,4 +1,4 @@
-use Rattle.std.proofs.Common.{[], ◌∷◌, refl}
+use Rattle.gateway_loop.proofs.Words.{[], ◌∷◌, refl}
 use Rattle.gateway_loop.proofs.GrowLemmas.{begins_by, begins_same, continues_all, noted, onward, tells_one, ticks_by}
 use Rattle.gateway_loop.proofs.ServingLemmas.{serving_moment, serving_told}
 use Rattle.gateway_loop.proofs.clients.Clients.tick.Goals as goal
@@ -6,14 +6,15 @@ use Rattle.gateway_loop.proofs.clients.Clients.tick.Goals as goal
 pub invariant_of-self : goal.invariant_of-self
 invariant_of-self g c u =
     let i = c.self.inside in
-    serving_told u i.core i.moment c.moment-moment.result _ _ c.if-moment-self.true refl refl (noted i.told.items c.and-self-inside.result.items _ _ c.and-self-inside.ensures) refl refl refl (c.self.invariant u)
+    serving_told u c.loop_laws.ensures i.core i.moment c.moment-moment.result _ _ c.if-moment-self.true refl refl
+    record { told = noted i.told.items c.and-self-inside.result.items _ _ c.and-self-inside.ensures; results = refl; handed = refl; drained = refl } (c.self.invariant u)
 
 pub invariant_of-self-2 : goal.invariant_of-self-2
 invariant_of-self-2 g c u =
     let i = c.self.inside in
     rw c.max-self-inside.ensures
     (serving_moment u c.loop_laws.ensures i.core c.moment-broke.new.self i.moment _ _ c.moment-broke.ensures.keeps.plans_are c.moment-moment.result refl refl
-    (noted i.told.items c.and-self-inside.result.items _ _ c.and-self-inside.ensures) refl refl refl c.moment-broke.ensures.stands (c.self.invariant u))
+    record { told = noted i.told.items c.and-self-inside.result.items _ _ c.and-self-inside.ensures; results = refl; handed = refl; drained = refl } c.moment-broke.ensures.stands (c.self.invariant u))
 
 pub returns-then-not-is_due-clause-goes : goal.returns-then-not-is_due-clause-goes
 returns-then-not-is_due-clause-goes g c =

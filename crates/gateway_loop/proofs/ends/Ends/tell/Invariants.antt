@@ -1,4 +1,4 @@
-use Rattle.std.specs.Prelude.{◌≡◌}
+use Rattle.gateway_loop.proofs.Words.{◌≡◌}
 use Rattle.gateway_loop.proofs.ends.Ends.tell.Given as goal
 
 -- no moment is told

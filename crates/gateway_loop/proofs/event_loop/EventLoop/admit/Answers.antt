@@ -2,9 +2,6 @@ use Rattle.gateway_loop.proofs.AskLemmas.{goes_then}
 use Rattle.gateway_loop.proofs.event_loop.EventLoop.admit.Goals as goal
 use Rattle.gateway_loop.proofs.event_loop.EventLoop.admit.Goals.{then-is_ok+in-Err-1, then-is_ok+in-Ok-1, else-is_ok}
 
-pub returns-in_default-clause-goes : goal.returns-in_default-clause-goes
-returns-in_default-clause-goes g c = rw (← c.self.view_is) c.open.ensures.goes
-
 pub returns-then-not-is_seated-clause-goes : goal.returns-then-not-is_seated-clause-goes
 returns-then-not-is_seated-clause-goes g c =
     rw (← c.self.view_is)
@@ -13,12 +10,3 @@ returns-then-not-is_seated-clause-goes g c =
       | then-is_ok+in-Ok-1 w ↦ rw w.self-is at c.drop_client.ensures.goes
       | else-is_ok w ↦ rw w.self-is at c.drop_client.ensures.goes
     ]))
-
-pub returns-else-not-is_seated-clause-goes : goal.returns-else-not-is_seated-clause-goes
-returns-else-not-is_seated-clause-goes g c =
-    rw (← c.self.view_is)
-    (elim c.if-is_ok.branch [
-      | then-is_ok+in-Err-1 w ↦ rw w.self-is c.open.ensures.goes
-      | then-is_ok+in-Ok-1 w ↦ rw w.self-is c.open.ensures.goes
-      | else-is_ok w ↦ rw w.self-is c.open.ensures.goes
-    ])

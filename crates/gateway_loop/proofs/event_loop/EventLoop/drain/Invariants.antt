@@ -1,6 +1,4 @@
-use Rattle.std.proofs.Common.{◌≡◌}
-use Rattle.loop_model.specs.Whole.{draining_loop}
-use Rattle.gateway_loop.specs.Loop.{Goes}
+use Rattle.gateway_loop.proofs.Words.{◌≡◌, draining_loop, Goes}
 use Rattle.gateway_loop.proofs.event_loop.EventLoop.drain.Given as goal
 
 -- it was told to drain, and only went on

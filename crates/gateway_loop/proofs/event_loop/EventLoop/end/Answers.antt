@@ -1,11 +1,5 @@
 use Rattle.gateway_loop.proofs.AskLemmas.{goes_then}
 use Rattle.gateway_loop.proofs.event_loop.EventLoop.end.Goals as goal
 
-pub returns-in_default-clause-goes : goal.returns-in_default-clause-goes
-returns-in_default-clause-goes g c = goes_then _ _ _ c.tick.ensures.goes c.finish.ensures.goes
-
 pub returns-then-not-is_wanted-clause-goes : goal.returns-then-not-is_wanted-clause-goes
 returns-then-not-is_wanted-clause-goes g c = goes_then _ _ _ c.tick.ensures.goes (goes_then _ _ _ c.finish.ensures.goes (goes_then _ _ _ c.note.ensures.goes c.give_up_unwanted.ensures.goes))
-
-pub returns-else-not-is_wanted-clause-goes : goal.returns-else-not-is_wanted-clause-goes
-returns-else-not-is_wanted-clause-goes g c = goes_then _ _ _ c.tick.ensures.goes (goes_then _ _ _ c.finish.ensures.goes c.note.ensures.goes)

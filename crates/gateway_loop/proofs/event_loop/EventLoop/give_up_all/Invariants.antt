@@ -1,5 +1,4 @@
-use Rattle.std.proofs.Common.{◌≡◌}
-use Rattle.gateway_loop.specs.Loop.{Goes}
+use Rattle.gateway_loop.proofs.Words.{◌≡◌, Goes}
 use Rattle.gateway_loop.proofs.event_loop.EventLoop.give_up_all.Given as goal
 
 -- it only went on

@@ -1,4 +1,4 @@
-use Rattle.std.proofs.Common.{◌∙◌}
+use Rattle.gateway_loop.proofs.Words.{◌∙◌}
 use Rattle.gateway_loop.proofs.AskLemmas.{goes_then}
 use Rattle.gateway_loop.proofs.event_loop.EventLoop.give_up_unwanted.Goals as goal
 use Rattle.gateway_loop.proofs.event_loop.EventLoop.give_up_unwanted.Goals.{then-is_wanted_at, else-is_wanted_at}

@@ -1,9 +1,6 @@
 use Rattle.gateway_loop.proofs.AskLemmas.{goes_then}
 use Rattle.gateway_loop.proofs.event_loop.EventLoop.start_jobs.Goals as goal
 
-pub returns-in_default-clause-goes : goal.returns-in_default-clause-goes
-returns-in_default-clause-goes g c = (goes_then _ _ _ c.loop-start.invariant.0 (rw (← c.self.view_is) c.begin.ensures.goes))
-
 pub loop-start-preserved : goal.loop-start-preserved
 loop-start-preserved g c = (
   goes_then _ _ _ c.loop-start.invariant.0 (rw (← c.self.view_is) (goes_then _ _ _ c.begin.ensures.goes c.start.ensures.goes)),

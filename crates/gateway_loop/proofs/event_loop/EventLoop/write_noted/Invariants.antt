@@ -1,4 +1,4 @@
-use Rattle.gateway_loop.specs.Loop.{Goes, TellsLoop}
+use Rattle.gateway_loop.proofs.Words.{Goes, TellsLoop}
 use Rattle.gateway_loop.proofs.event_loop.EventLoop.write_noted.Given as goal
 
 -- it only went on

@@ -1,10 +1,6 @@
-use Rattle.std.proofs.Common.{◌≡◌, List, Option, None, Some, ap, sym, subst, ◌∙◌}
-use Rattle.std.specs.Prelude.{slice_index_or}
-use Rattle.slab.specs.Slab.{Slab}
-use Rattle.gateway_loop.specs.Asking.{AskingState}
-use Rattle.gateway_theory.specs.Task.{HandedJob}
-use Rattle.gateway_loop.specs.Loop.{Goes, whole_loop}
-use Rattle.gateway_loop.proofs.AskLemmas.{Put, goes_begin, goes_side, put_one, takes_job, takes_none}
+use Rattle.gateway_loop.proofs.Words.{◌≡◌, List, Option, None, Some, ap, map, refl, sym, subst, ◌∙◌, option_map, slice_index_or, Slab, AskingState, asked_for, HandedJob}
+use Rattle.gateway_loop.proofs.AskLemmas.{goes_begin, goes_side, takes_job, takes_none}
+use Rattle.gateway_loop.proofs.Places.{Put, put_one}
 use Rattle.gateway_loop.proofs.exchanges.Exchanges.begin.Goals as goal
 
 pub invariant_of-self-2 : goal.invariant_of-self-2
@@ -37,9 +33,4 @@ returns-clause-goes g c =
 
 pub returns-in_default-clause-goes : goal.returns-in_default-clause-goes
 returns-in_default-clause-goes g c =
-    let i = c.self.inside in
-    let slots : c.reserve.new.self.slots ≡ i.asking.slots = ap (λ (s : Slab AskingState). s.slots) c.reserve.ensures.rest_kept in
-    rw (← c.self.view_is)
-    (subst
-    (λ (now : List (Option AskingState)). Goes (whole_loop i.clients i.asking.slots i.ended.items) (whole_loop c.take_job.new.self now i.ended.items))
-    (sym slots) (goes_side i.clients c.take_job.new.self _ _ c.take_job.ensures.goes))
+    rw (← c.self.view_is) (goes_side _ _ c.take_job.ensures.goes (ap (λ (s : Slab AskingState). map (λ (o : Option AskingState). option_map asked_for o) s.slots) c.reserve.ensures.rest_kept) refl)

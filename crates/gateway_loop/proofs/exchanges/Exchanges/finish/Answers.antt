@@ -1,5 +1,6 @@
-use Rattle.std.proofs.Common.{sym}
-use Rattle.gateway_loop.proofs.AskLemmas.{ends_one, goes_ended, put_one}
+use Rattle.gateway_loop.proofs.Words.{sym}
+use Rattle.gateway_loop.proofs.AskLemmas.{ends_one, goes_ended}
+use Rattle.gateway_loop.proofs.Places.{put_one}
 use Rattle.gateway_loop.proofs.exchanges.Exchanges.finish.Goals as goal
 
 pub invariant_of-self-2 : goal.invariant_of-self-2

@@ -1,4 +1,0 @@
-use Rattle.gateway_loop.proofs.event_loop.EventLoop.drop_new.Goals as goal
-
-pub returns-clause-goes : goal.returns-clause-goes
-returns-clause-goes g c = rw (← c.self.view_is) c.finish-end.ensures.goes

@@ -1,4 +1,0 @@
-use Rattle.gateway_loop.proofs.event_loop.EventLoop.line_up_exchange.Goals as goal
-
-pub returns-then-is_err-clause-goes : goal.returns-then-is_err-clause-goes
-returns-then-is_err-clause-goes g c = rw (← c.self.view_is) c.starve_exchange.ensures.goes

@@ -1,5 +1,0 @@
-use Rattle.gateway_loop.proofs.AskLemmas.{goes_then}
-use Rattle.gateway_loop.proofs.event_loop.EventLoop.lose.Goals as goal
-
-pub returns-clause-goes : goal.returns-clause-goes
-returns-clause-goes g c = rw (← c.self.view_is) (goes_then _ _ _ c.lose.ensures.goes c.end.ensures.goes)
