@@ -32,7 +32,15 @@ any_at p (x ∷ xs) (suc i) d none lt = any_at p xs i d (or_parts (p x) (list_an
 module _ (id : Id) where
   pub only_one : (l : Life) (ls : List Life) → NoTwo same_ctx ls → life_at id ls ≡ Some l → All (λ m. same m.ctx id ≡ true → m ≡ l) ls
   only_one l [] distinct found = cc
-  only_one l (m ∷ ms) distinct found = grind (arith, nat_tests, only_one l ms distinct.1, same_Some, All-cons, All-weaker, not_both, all_none, gone_first)
+  only_one l (m ∷ ms) distinct found = ⊎_elim
+      (λ (y : same m.ctx id ≡ true).
+      let e : m ≡ l = same_Some m l (rw y at found) in
+      All-cons (λ m. same m.ctx id ≡ true → m ≡ l) m ms (λ z. e)
+      (All-weaker (λ k. same k.ctx id ≡ false) (λ k. same k.ctx id ≡ true → k ≡ l) (λ k far z. absurd (not_both (same k.ctx id) z far)) ms
+      (all_none (λ k. same k.ctx id) ms (gone_first id m ms distinct.0 y))))
+      (λ (n : same m.ctx id ≡ false).
+      All-cons (λ m. same m.ctx id ≡ true → m ≡ l) m ms (λ z. absurd (not_both (same m.ctx id) z n)) (only_one l ms distinct.1 (rw n at found)))
+      (cases_Bool (same m.ctx id))
 
   pub others_still : (ts : List Twig) (ls : List Life) → list_any (λ k. same k.ctx id) ls ≡ false → map (with_twigs id ts) ls ≡ ls
   others_still ts [] none = refl

@@ -79,11 +79,19 @@ not_begun slots id (l ∷ ls) none = ⊎_elim (λ (y : is_call l.id id ≡ true)
 -- ---- what the index answers
 
 module _ (id : CallId) (ls : List Life) {es : List Entry} (i : IsIndexed es (names_of ls)) where
-  told : indexed id es ≡ option_map (λ l. l.ctx) (life_for id ls)
+  pub told : indexed id es ≡ option_map (λ l. l.ctx) (life_for id ls)
   told = i.is id ∙ named_life id ls
 
   pub none_indexed : indexed id es ≡ None → life_for id ls ≡ None
   none_indexed none = grind (arith, told)
+
+  -- the call that is meant
+  pub call_at : (x : Id) → indexed id es ≡ Some x → (l : Life) × (life_for id ls ≡ Some l) × (l.ctx ≡ x)
+  call_at x at = by (life_for id ls) refl
+    where
+      by : (o : Option Life) → life_for id ls ≡ o → (l : Life) × (life_for id ls ≡ Some l) × (l.ctx ≡ x)
+      by None is = absurd (let clash : None ≡ Some x = sym (told ∙ ap (option_map (λ (l : Life). l.ctx)) is) ∙ at in cc)
+      by (Some l) is = (l, is, same_Some l.ctx x (sym (told ∙ ap (option_map (λ (m : Life). m.ctx)) is) ∙ at))
 
   pub one_indexed : Rising (numbers_of ls) → (x : Id) → indexed id es ≡ Some x → life_at x ls ≡ life_for id ls
   one_indexed rising x at = grind (arith, nat_tests, told, life_of, same_Some)

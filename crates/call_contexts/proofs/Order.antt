@@ -62,7 +62,7 @@ module _ (x : Id) (ls : List Life) (rising : Rising (numbers_of ls)) where
   missed i parted = none_at x ls (λ k d low.
       let before = λ (lt : k < i). less_apart (slice_index_or ls k d).ctx x (ranked _ x.0 _ (sym ((parted comparisons_rise).0 k d (omega arith) lt))) in
       let behind = λ (le : i ≤ k). more_apart (slice_index_or ls k d).ctx x (ranked _ x.0 _ (sym ((parted comparisons_rise).1 k d le low))) in
-      grind (arith, before, behind))
+      ⊎_elim (λ (is : k ≡ i). behind (omega (arith, is))) (λ o. ⊎_elim before (λ (lt : i < k). behind (omega (arith, lt))) o) (cases_order k i))
 
   -- where the call of that number is of another context, none is of this one
   pub another : (i : ℕ) (l : Life) → i < length ls → IsBinarySearchResult (λ l. nat_cmp l.ctx.0 x.0) ls (Ok i) → same (slice_index_or ls i l).ctx x ≡ false → life_at x ls ≡ None

@@ -177,7 +177,10 @@ module _ {C V H : Type 0} (laws : TreeLaws C V) {f : AfterFuncs H} {base : Id} {
 
     -- a cancel leaves all sound
     pub sound_after_cancel : (answer ≡ false → StandsFor new s.past) → IsSound new f base conns calls
-    sound_after_cancel keeps = search arith
+    sound_after_cancel keeps = ⊎_elim
+        (λ (y : answer ≡ true). sound_held (Cancels id (Some cause) ∷ s.past) (λ x. refl) f s.hooks_are new (ends y) s.unhanded)
+        (λ (n : answer ≡ false). sound_held s.past (λ x. refl) f s.hooks_are new (keeps n) s.unhanded)
+        (cases_Bool answer)
 
   -- ---- the base is cancelled
 

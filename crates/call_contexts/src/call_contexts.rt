@@ -119,9 +119,9 @@ impl<C: Copy, V: Drop, H: Drop> CallContexts<C, V, H> {
             return Err(hook);
         };
         let (ctx, holder) = made;
-        let twigs = Twigs::new(*self.calls.allocator());
         match keep(&mut self.index, &mut self.hooks, id, ctx, hook) {
             Ok(hook) => {
+                let twigs = Twigs::new(*self.calls.allocator());
                 self.calls.push_reserved(Life {
                     id: *id,
                     ctx,
@@ -144,8 +144,7 @@ impl<C: Copy, V: Drop, H: Drop> CallContexts<C, V, H> {
     pub fn ctx_for(&self, id: &CallId) -> Option<CtxId>
         ensures { result ≡ ctx_for id.now self.now.standing.calls }
     {
-        let life = calls::named(&self.calls, &self.index, id)?;
-        Some(life.ctx)
+        self.index.find(id)
     }
 
     /// A call of the connection of that number, if one stands.
@@ -160,10 +159,10 @@ impl<C: Copy, V: Drop, H: Drop> CallContexts<C, V, H> {
     pub fn request_id(&self, id: &CallId) -> Option<&V>
         ensures { option_copied result ≡ request_for id.now self.now.standing.calls }
     {
-        let Some(life) = calls::named(&self.calls, &self.index, id) else {
+        let Some(ctx) = self.index.find(id) else {
             return None;
         };
-        match self.tree.value(life.ctx, REQUEST_ID) {
+        match self.tree.value(ctx, REQUEST_ID) {
             Ok(request_id) => request_id,
             Err(_) => unreachable!(),
         }

@@ -1,5 +1,6 @@
 -- The hooks of connections and of calls, beside their contexts.
-use Rattle.gateway_replies.proofs.Names.{◌≡◌, ℕ, ◌<◌, zero, suc, refl, sym, ap, ◌∙◌, List, [], ◌∷◌, ◌++◌, append-nil, Option, Some, None, true, false, ⊎_elim, subst, length, arith, ◌⊎◌, IfNone, IfOk, IfSome, OnErr, OnOk, Result, Ok, Err, ◌==◌, not, if◌then◌else◌, filter, slice_set, slice_index_or, list_any, cases_Bool, eqb-true, or_parts, map_push, All-head, All-tail, same_Some, Id, same, WithHooks, with_standing, ctx_for, first_of, hook_for, CallId, is_call, all_stay, Peer, names_in, AllContexts, CallContext, ContextsValue, ctx_of, BringsHooks, Called, DropsHooks, GivesBytes, HookedContexts, Hooks, KeepsHooks, LosesHook, KeepsStocks, Stocks, TakesHook, hook_of, hooked, hooks_but, hooks_of_others, stock_in, stock_of, AreHooked, Takes, hooks_of, peer_ties, stock_tie, stock_ties, nat_tests}
+use Rattle.gateway_replies.proofs.Names.{◌≡◌, ℕ, ◌<◌, zero, suc, refl, sym, ap, ◌∙◌, List, [], ◌∷◌, ◌++◌, append-nil, Option, Some, None, true, false, ⊎_elim, inr, subst, length, arith, ◌⊎◌, IfNone, IfOk, IfSome, OnErr, OnOk, Result, Ok, Err, ◌==◌, not, if◌then◌else◌, filter, slice_set, slice_index_or, list_any, cases_Bool, eqb-true, or_parts, map_push, All-head, All-tail, same_Some, Id, same, WithHooks, with_standing, ctx_for, first_of, hook_for, CallId, is_call, all_stay, Peer, names_in, AllContexts, CallContext, ContextsValue, ctx_of, BringsHooks, Called, DropsHooks, GivesBytes, HookedContexts, Hooks, KeepsHooks, LosesHook, KeepsStocks, Stocks, TakesHook, hook_of, hooked, hooks_but, hooks_of_others, stock_in, stock_of, AreHooked, Takes, hooks_of, peer_ties, stock_tie, stock_ties, nat_tests}
+use Rattle.gateway_replies.specs.Hooks.{MayLoseHook}
 use Rattle.gateway_replies.specs.Ties.{AreOthers}
 use Rattle.http_pieces.specs.Request.{most_requests}
 use Rattle.std.specs.declared.alloc.AllocError.{AllocError}
@@ -162,6 +163,19 @@ module _ {H : Type 0} where
         ∙ hooks_more cs hs l.0 (l.1, hook) hooked ∙ ap (λ (v : HookedContexts H). v.hooks ++ (l.0, hook) ∷ []) u_is;
     called_are = ap (λ (v : HookedContexts H). v.called) u_is;
   }
+
+  -- a connection's first hook is taken, and no call begins with it
+  pub loses_first : {log : Called} (u : HookedContexts H) (x y : ContextsValue) (ps qs : List (Peer H)) (hs : Hooks H) (number : ℕ) (hook : H) → hooked x (stock_ties ps) hs log ≡ u
+      → stock_of number (stock_ties ps) ≡ hook ∷ stock_of number (stock_ties qs) → MayLoseHook number u (hooked y (stock_ties qs) hs log)
+  loses_first u x y ps qs hs number hook u_is first = record {
+    hooks_are = ap (λ (v : HookedContexts H). v.hooks) u_is;
+    called_are = ap (λ (v : HookedContexts H). v.called) u_is;
+    stock_is = inr (hook, ap (λ (v : HookedContexts H). stock_of number v.stocks) (sym u_is) ∙ first);
+  }
+
+  pub keeps_others : {log : Called} (u : HookedContexts H) (x : ContextsValue) (ps qs : List (Peer H)) (hs : Hooks H) (number : ℕ) → hooked x (stock_ties ps) hs log ≡ u
+      → KeepsStocks number (stock_ties ps) (stock_ties qs) → KeepsStocks number u.stocks (stock_ties qs)
+  keeps_others u x ps qs hs number u_is keeps = λ other ne. keeps other ne ∙ ap (λ (v : HookedContexts H). stock_of other v.stocks) u_is
 
   -- and these are called
   pub drops_one : {V : Type 0} {log later : Called} (more : Called) (u : HookedContexts H) (y z : ContextsValue) (peers : List (Peer H)) (cs left : List (CallContext V)) (hs is : List (Id × H)) (id : CallId) (x : Id)

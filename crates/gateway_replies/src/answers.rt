@@ -6,11 +6,12 @@ ghost use Rattle.gateway_theory.specs.Arrivals.{is_ask};
 ghost use Rattle.gateway_model.specs.Arrival.{refusal_reply, verdict_reply};
 ghost use Rattle.gateway_model.specs.Errors.{crowded_error};
 ghost use Rattle.gateway_model.specs.Reply.{reply_of};
+ghost use Rattle.error_document.specs.Documents.{plain_error};
 
 use connect_codec::{Verdict, bare_reply, error_reply};
 use error_document::{Code, RpcError};
 use gateway_model::ReplyBytes;
-use http_pieces::Refusal;
+use http_pieces::{Bytes, Refusal};
 use std::alloc::{AllocError, Global};
 
 /// The reply to a stream that is refused.
@@ -40,12 +41,12 @@ fn last_bare(alloc: Global, status: u16) -> Result<ReplyBytes, AllocError>
 fn too_large(alloc: Global) -> Result<ReplyBytes, AllocError>
     ensures { IfOk result (λ reply. reply ≡ refusal_reply Refusal.BodyTooLarge) }
 {
-    let error = RpcError::plain(
+    let bytes = error_bytes(
         alloc,
         Code::ResourceExhausted,
         "body larger than 65536 bytes",
+        true,
     )?;
-    let bytes = error_reply(alloc, &error, true)?;
     Ok(ReplyBytes { bytes, last: true })
 }
 
@@ -67,11 +68,19 @@ pub(crate) fn judged(alloc: Global, verdict: &Verdict, last: bool) -> Result<Rep
 pub(crate) fn crowded(alloc: Global, last: bool) -> Result<ReplyBytes, AllocError>
     ensures { IfOk result (λ reply. reply ≡ reply_of (error_reply crowded_error last) last) }
 {
-    let error = RpcError::plain(
+    let bytes = error_bytes(
         alloc,
         Code::ResourceExhausted,
         "more than 8 calls in flight",
+        last,
     )?;
-    let bytes = error_reply(alloc, &error, last)?;
     Ok(ReplyBytes { bytes, last })
+}
+
+/// The reply that tells an error without details.
+fn error_bytes(alloc: Global, code: Code, message: &str, last: bool) -> Result<Bytes, AllocError>
+    ensures { IfOk result (λ bytes. bytes ≡ error_reply (plain_error code message.now) last) }
+{
+    let error = RpcError::plain(alloc, code, message)?;
+    error_reply(alloc, &error, last)
 }

@@ -12,7 +12,6 @@ use std::marker::Model;
 use std::sync::Arc;
 
 /// What a call asks for: shared by the call and its jobs.
-#[derive(Drop)]
 pub struct ArrivedCall {
     pub plan: Arc<Plan>,
     pub request: Request,
@@ -22,6 +21,19 @@ pub struct ArrivedCall {
     pub start: u64,
     /// The moment at which it expires, if it ever does.
     pub deadline: Option<u64>,
+}
+
+// by hand, so that a drop is one call, where a derived one is written out at each return
+impl Drop for ArrivedCall {
+    fn drop(self) {
+        let ArrivedCall {
+            plan: _,
+            request: _,
+            request_id: _,
+            start: _,
+            deadline: _,
+        } = self;
+    }
 }
 
 impl Model for ArrivedCall {
@@ -67,10 +79,17 @@ impl ArrivedCall {
         let last = self.request.closes();
         let mut events = Vec::new(alloc);
         events.push(event)?;
+        let ArrivedCall {
+            plan,
+            request: _,
+            request_id: _,
+            start,
+            deadline,
+        } = self;
         Ok(CallRecord {
-            plan: self.plan,
-            start: self.start,
-            deadline: self.deadline,
+            plan,
+            start,
+            deadline,
             last,
             branch_deadlines: Vec::new(alloc),
             events,
@@ -84,7 +103,10 @@ fn after(start: u64, timeout: Option<u64>) -> Option<u64>
     requires timely { IfSome timeout (λ t. t ≤ MAX_DECIMAL) }
     ensures { result ≡ option_map (λ t. start + t) timeout }
 {
-    timeout.map(|timeout| start + timeout)
+    match timeout {
+        Some(timeout) => Some(start + timeout),
+        None => None,
+    }
 }
 
 /// The smaller of two timeouts, of which either may be absent.

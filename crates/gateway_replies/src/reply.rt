@@ -13,11 +13,21 @@ use std::alloc::{AllocError, Global};
 use std::marker::Model;
 
 /// A reply, ready to be written to its connection: its bytes are those that answer its entry.
-#[derive(Drop)]
 pub struct Reply {
     id: CallId,
     entry: ReplyEntry,
     message: ReplyBytes,
+}
+
+// by hand, so that a drop is one call, where a derived one is written out at each return
+impl Drop for Reply {
+    fn drop(self) {
+        let Reply {
+            id: _,
+            entry: _,
+            message: _,
+        } = self;
+    }
 }
 
 impl Model for Reply {
@@ -77,10 +87,11 @@ impl Reply {
 pub fn refused_reply(alloc: Global, id: CallId, refusal: Refusal) -> Result<Reply, AllocError>
     ensures { IfOk result (λ reply. reply ≡ reply_with id (ReplyEntry.Refused refusal)) }
 {
+    let message = refused(alloc, refusal)?;
     Ok(Reply {
         id,
         entry: ReplyEntry::Refused(refusal),
-        message: refused(alloc, refusal)?,
+        message,
     })
 }
 
@@ -107,10 +118,11 @@ pub fn judged_reply(
 pub fn crowded_reply(alloc: Global, id: CallId, last: bool) -> Result<Reply, AllocError>
     ensures { IfOk result (λ reply. reply ≡ reply_with id (ReplyEntry.Crowded last)) }
 {
+    let message = crowded(alloc, last)?;
     Ok(Reply {
         id,
         entry: ReplyEntry::Crowded(last),
-        message: crowded(alloc, last)?,
+        message,
     })
 }
 

@@ -1,5 +1,5 @@
 /// For what a context is cancelled (Go `context`, `WithCancelCause`).
-#[derive(Clone, Copy, Debug)]
+#[derive(Clone, Copy)]
 pub enum CancelledBy {
     /// The peer of its connection hung up.
     HangUp,

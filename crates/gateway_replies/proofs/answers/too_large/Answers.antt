@@ -4,4 +4,4 @@ use Rattle.gateway_replies.proofs.answers.too_large.Goals as goal
 
 pub returns : goal.returns
 unfolding refusal_reply
-returns c = rw (c.in_ok-bytes.ensures, c.in_ok-error.ensures) refl
+returns c = rw c.in_ok-bytes.ensures refl

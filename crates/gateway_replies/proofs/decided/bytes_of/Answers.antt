@@ -1,4 +1,4 @@
-use Rattle.gateway_replies.proofs.Names.{◌≡◌, ◌∙◌, Some, None, append-nil, inl, inr, subst, sym, KeepsOthers, CallsAtMost, LosesHook, called_on, ending_for, err_if}
+use Rattle.gateway_replies.proofs.Names.{◌≡◌, ◌∙◌, Some, None, append-nil, inl, inr, refl, subst, sym, KeepsOthers, CallsAtMost, LosesHook, called_on, ending_for, err_if}
 use Rattle.gateway_replies.proofs.ContextLemmas.{without_others}
 use Rattle.gateway_replies.proofs.HookLemmas.{gives_none, gives_told, ok_if}
 use Rattle.gateway_replies.proofs.decided.bytes_of.Goals as goal
@@ -36,3 +36,9 @@ returns-in-None-clause-called g c =
 
 pub returns-in-None-clause-once : goal.returns-in-None-clause-once
 returns-in-None-clause-once g c = err_if c.joined.result (inl (c.abandon.ensures.hooks.called_are ∙ append-nil c.args.contexts.now.called))
+
+pub returns-in_err-ending-clause-others : goal.returns-in_err-ending-clause-others
+returns-in_err-ending-clause-others g c = err_if c.from_residual.result (record { drained_is = refl; conns_are = refl; others_are = refl })
+
+pub returns-in_err-ending-clause-once : goal.returns-in_err-ending-clause-once
+returns-in_err-ending-clause-once g c = err_if c.from_residual.result (inl refl)

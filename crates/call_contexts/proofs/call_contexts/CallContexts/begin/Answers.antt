@@ -10,7 +10,7 @@ pub invariant_of-self-in_default : goal.invariant_of-self-in_default
 invariant_of-self-in_default g c =
     let s = c.self.invariant.sound in
     let r = c.in_default.ensures.refused s.laws s.past s.tree_is in
-    record { sound = rw c.reserve.ensures.items (sound_alike s.laws s r.later c.make.new.tree r.stands r.alike r.handed_is c.self.inside.hooks s.hooks_are); rising = rw c.reserve.ensures.items c.self.invariant.rising; indexed = rw c.reserve.ensures.items c.self.invariant.indexed }
+    rw c.reserve.ensures.items (record { sound = sound_alike s.laws s r.later c.make.new.tree r.stands r.alike r.handed_is c.self.inside.hooks s.hooks_are; rising = c.self.invariant.rising; indexed = c.self.invariant.indexed })
 
 pub returns-in_default-clause-unchanged : goal.returns-in_default-clause-unchanged
 returns-in_default-clause-unchanged g c =
@@ -24,16 +24,16 @@ invariant_of-self-in-Ok-keep g c =
     let s = c.self.invariant.sound in
     let there : is_among c.args.conn c.self.inside.conns.items ≡ true = sym (conn_among c.self.inside.tree.slots c.self.inside.conns.items c.args.conn) ∙ ap (λ (v : WithHooks _ _ _). is_conn c.args.conn v.standing.conns) c.self.view_is ∙ c.requires.known in
     let fresh = not_begun c.self.inside.tree.slots c.args.id.now c.self.inside.calls.items (ap (λ (v : WithHooks _ _ _). call_for c.args.id.now v.standing.calls) c.self.view_is ∙ c.requires.named) in
-    record { sound = rw (c.push_reserved.ensures.items, c.reserve.ensures.items) (sound_begun s.laws s (record { id = c.args.id.now; ctx = c.in-Ok.made.0; holder = c.in-Ok.made.1; conn = c.args.conn; deadline = c.args.deadline; hook = c.in-Ok-keep.hook; twigs = c.new-twigs.result }) c.new-twigs.ensures c.args.now c.args.request_id c.in-Ok.ensures.held c.make.new.tree there (c.in-Ok.ensures.made s.past s.tree_is) c.args.hook c.keep.new.hooks (c.in-Ok-keep.ensures.hooked s.hooks s.hooks_are) (c.in-Ok-keep.ensures.number s.hooks s.hooks_are)); rising = rw (c.push_reserved.ensures.items, c.reserve.ensures.items) (begun_rises s.laws s (record { id = c.args.id.now; ctx = c.in-Ok.made.0; holder = c.in-Ok.made.1; conn = c.args.conn; deadline = c.args.deadline; hook = c.in-Ok-keep.hook; twigs = c.new-twigs.result }) c.new-twigs.ensures c.args.now c.args.request_id c.in-Ok.ensures.held c.make.new.tree there (c.in-Ok.ensures.made s.past s.tree_is) c.self.invariant.rising); indexed = rw (c.push_reserved.ensures.items, c.reserve.ensures.items) (indexed_push (record { id = c.args.id.now; ctx = c.in-Ok.made.0; holder = c.in-Ok.made.1; conn = c.args.conn; deadline = c.args.deadline; hook = c.in-Ok-keep.hook; twigs = c.new-twigs.result }) c.self.inside.calls.items c.self.invariant.indexed fresh c.in-Ok-keep.ensures.named) }
+    rw (c.push_reserved.ensures.items, c.reserve.ensures.items) (record { sound = sound_begun s.laws s (record { id = c.args.id.now; ctx = c.in-Ok.made.0; holder = c.in-Ok.made.1; conn = c.args.conn; deadline = c.args.deadline; hook = c.in-Ok-keep.hook; twigs = c.new-twigs.result }) c.new-twigs.ensures c.args.now c.args.request_id c.in-Ok.ensures.held c.make.new.tree there (c.in-Ok.ensures.made s.past s.tree_is) c.args.hook c.keep.new.hooks (c.in-Ok-keep.ensures.hooked s.hooks s.hooks_are) (c.in-Ok-keep.ensures.number s.hooks s.hooks_are); rising = begun_rises s.laws s (record { id = c.args.id.now; ctx = c.in-Ok.made.0; holder = c.in-Ok.made.1; conn = c.args.conn; deadline = c.args.deadline; hook = c.in-Ok-keep.hook; twigs = c.new-twigs.result }) c.new-twigs.ensures c.args.now c.args.request_id c.in-Ok.ensures.held c.make.new.tree there (c.in-Ok.ensures.made s.past s.tree_is) c.self.invariant.rising; indexed = indexed_push (record { id = c.args.id.now; ctx = c.in-Ok.made.0; holder = c.in-Ok.made.1; conn = c.args.conn; deadline = c.args.deadline; hook = c.in-Ok-keep.hook; twigs = c.new-twigs.result }) c.self.inside.calls.items c.self.invariant.indexed fresh c.in-Ok-keep.ensures.named })
 
-pub invariant_of-self-in-Err-keep : goal.invariant_of-self-in-Err-keep
-invariant_of-self-in-Err-keep g c =
+pub invariant_of-self-in-Err : goal.invariant_of-self-in-Err
+invariant_of-self-in-Err g c =
     let s = c.self.invariant.sound in
     let laws = s.laws in
     let made = c.in-Ok.ensures.made s.past s.tree_is in
     let free = call_free laws c.in-Ok.made.0 c.args.conn c.args.deadline c.args.now s.past c.in-Ok.made.1 c.args.request_id c.in-Ok.ensures.held made.contexts.lawful in
     let fresh = not_begun c.self.inside.tree.slots c.args.id.now c.self.inside.calls.items (ap (λ (v : WithHooks _ _ _). call_for c.args.id.now v.standing.calls) c.self.view_is ∙ c.requires.named) in
-    record { sound = rw c.reserve.ensures.items (sound_alike laws s (let_go c.in-Ok.made.0 c.in-Ok.made.1 (with_call c.in-Ok.made.0 c.in-Ok.made.1 c.args.conn c.args.deadline c.args.now c.args.request_id s.past)) c.release.new.tree (c.release.ensures _ made free) (call_unmade laws c.in-Ok.made.0 c.args.conn c.args.deadline c.args.now s.past c.in-Ok.made.1 c.args.request_id c.in-Ok.ensures.held made.contexts.lawful) (handed_back c.in-Ok.made.0 c.args.conn c.args.deadline c.args.now s.past c.in-Ok.made.1 c.args.request_id) c.keep.new.hooks (c.in-Err.ensures.unhooked s.hooks s.hooks_are)); rising = rw c.reserve.ensures.items c.self.invariant.rising; indexed = rw c.reserve.ensures.items (indexed_back c.args.id.now c.self.inside.calls.items c.self.invariant.indexed fresh (c.in-Err.ensures.unnamed (not_indexed c.args.id.now c.self.inside.calls.items c.self.invariant.indexed fresh))) }
+    rw c.reserve.ensures.items (record { sound = sound_alike laws s (let_go c.in-Ok.made.0 c.in-Ok.made.1 (with_call c.in-Ok.made.0 c.in-Ok.made.1 c.args.conn c.args.deadline c.args.now c.args.request_id s.past)) c.release.new.tree (c.release.ensures _ made free) (call_unmade laws c.in-Ok.made.0 c.args.conn c.args.deadline c.args.now s.past c.in-Ok.made.1 c.args.request_id c.in-Ok.ensures.held made.contexts.lawful) (handed_back c.in-Ok.made.0 c.args.conn c.args.deadline c.args.now s.past c.in-Ok.made.1 c.args.request_id) c.keep.new.hooks (c.in-Err.ensures.unhooked s.hooks s.hooks_are); rising = c.self.invariant.rising; indexed = indexed_back c.args.id.now c.self.inside.calls.items c.self.invariant.indexed fresh (c.in-Err.ensures.unnamed (not_indexed c.args.id.now c.self.inside.calls.items c.self.invariant.indexed fresh)) })
 
 pub returns-in-Ok-keep-clause-stands : goal.returns-in-Ok-keep-clause-stands
 returns-in-Ok-keep-clause-stands g c =

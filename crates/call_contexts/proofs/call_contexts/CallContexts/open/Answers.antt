@@ -18,3 +18,12 @@ pub returns-clause-fresh : goal.returns-clause-fresh
 returns-clause-fresh g c =
     let s = c.self.invariant.sound in
     rw (← c.self.view_is) (is_new s c.in-Ok.conn (open_unheld s.laws s c.in-Ok.conn c.with_cancel.new.self (c.in-Ok.ensures.made s.past s.tree_is).1))
+
+pub invariant_of-self : goal.invariant_of-self
+invariant_of-self g c = rw c.reserve.ensures.items c.self.invariant
+
+pub invariant_of-self-in_default : goal.invariant_of-self-in_default
+invariant_of-self-in_default g c = rw (c.reserve.ensures.items, c.in_default.ensures.unchanged) c.self.invariant
+
+pub returns-in_default : goal.returns-in_default
+returns-in_default g c = record { stands = tt; fresh = tt; unchanged = rw (c.reserve.ensures.items, c.in_default.ensures.unchanged) c.self.view_is }

@@ -1,6 +1,6 @@
-use Rattle.gateway_replies.proofs.Names.{◌≡◌, ◌∙◌, ◌∷◌, Some, None, true, false, ap, subst, sym, map_push, arc_value, WithHooks, ArrivedCall, names_in, CallContext, ContextsValue, ctx_of, HookedContexts, stock_in, stock_of, Takes, peer_ties, stock_ties}
+use Rattle.gateway_replies.proofs.Names.{◌≡◌, ℕ, ◌∙◌, ◌∷◌, Some, None, true, false, ap, err_if, inl, refl, subst, sym, map_push, arc_value, WithHooks, ArrivedCall, names_in, CallContext, ContextsValue, ctx_of, HookedContexts, stock_in, stock_of, Takes, peer_ties, stock_ties}
 use Rattle.gateway_replies.proofs.ContextLemmas.{begun_tied, begun_value, known_conn, not_begun, not_known}
-use Rattle.gateway_replies.proofs.HookLemmas.{has_stock, takes_most, takes_one}
+use Rattle.gateway_replies.proofs.HookLemmas.{has_stock, keeps_others, loses_first, takes_most, takes_one}
 use Rattle.gateway_replies.proofs.contexts.Contexts.begin.Goals as goal
 
 pub unreachable-requires : goal.unreachable-requires
@@ -57,10 +57,36 @@ unreachable-requires-in_default-take_hook g c =
     (subst (λ n. Takes n c.take_hook.result (stock_ties c.self.inside.peers.items) (stock_ties c.take_hook.new.peers.items)) c.number-2.ensures c.take_hook.ensures.taken) in
     c.requires.stocked (ap (λ (u : HookedContexts _). stock_in c.args.id.now.conn u.stocks) (sym c.self.view_is) ∙ has_stock c.args.id.now.conn c.self.inside.peers.items c.in-Some.conn at ∙ ap Some none.0)
 
-pub returns-in_default-begin-clause-takes : goal.returns-in_default-begin-clause-takes
-returns-in_default-begin-clause-takes g c =
-    takes_most c.args.self.now _ c.self.inside.peers.items c.take_hook.new.peers.items _ c.args.id.now.conn c.take_hook.result c.self.view_is c.take_hook.ensures.ties
-    (subst (λ n. Takes n c.take_hook.result (stock_ties c.self.inside.peers.items) (stock_ties c.take_hook.new.peers.items)) c.number-2.ensures c.take_hook.ensures.taken)
+pub invariant_of-self : goal.invariant_of-self
+invariant_of-self g c = rw (c.take_hook.ensures.ties, c.in_default-begin.ensures.unchanged) c.self.invariant
+
+pub returns-in_default-begin : goal.returns-in_default-begin
+returns-in_default-begin g c =
+    let ps = c.self.inside.peers.items in
+    let qs = c.take_hook.new.peers.items in
+    let n : ℕ = c.args.id.now.conn in
+    let hook = c.in-Some-take_hook.hook in
+    let takes : Takes n (Some hook) (stock_ties ps) (stock_ties qs) = subst (λ m. Takes m (Some hook) (stock_ties ps) (stock_ties qs)) c.number-2.ensures c.in-Some-take_hook.ensures.taken in
+    record {
+      ok = tt;
+      hook = tt;
+      others = keeps_others c.args.self.now _ ps qs _ n c.self.view_is takes.1;
+      err = rw (c.take_hook.ensures.ties, c.in_default-begin.ensures.unchanged) (ap (λ (u : HookedContexts _). u.standing) c.self.view_is);
+      lost = rw c.in_default-begin.ensures.unchanged (loses_first c.args.self.now _ _ ps qs _ n hook c.self.view_is takes.0);
+      takes = takes_most c.args.self.now _ ps qs _ n (Some hook) c.self.view_is c.take_hook.ensures.ties takes;
+    }
+
+pub returns-in_err-request_id-clause-others : goal.returns-in_err-request_id-clause-others
+returns-in_err-request_id-clause-others g c = λ other ne. refl
+
+pub returns-in_err-request_id-clause-err : goal.returns-in_err-request_id-clause-err
+returns-in_err-request_id-clause-err g c = err_if c.from_residual.result refl
+
+pub returns-in_err-request_id-clause-lost : goal.returns-in_err-request_id-clause-lost
+returns-in_err-request_id-clause-lost g c = err_if c.from_residual.result (record { hooks_are = refl; called_are = refl; stock_is = inl refl })
+
+pub returns-in_err-request_id-clause-takes : goal.returns-in_err-request_id-clause-takes
+returns-in_err-request_id-clause-takes g c = λ other stock is. inl is
 
 pub returns-clause-takes : goal.returns-clause-takes
 returns-clause-takes g c =

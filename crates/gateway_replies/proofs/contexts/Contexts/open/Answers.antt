@@ -1,4 +1,4 @@
-use Rattle.gateway_replies.proofs.Names.{◌∙◌, ◌++◌, ◌∷◌, [], arith, ap, sym, arc_value, WithHooks, HookedContexts, peer_ties, names_in, is_peer}
+use Rattle.gateway_replies.proofs.Names.{◌∙◌, ◌++◌, ◌∷◌, [], arith, ap, refl, sym, arc_value, WithHooks, HookedContexts, peer_ties, names_in, is_peer}
 use Rattle.gateway_replies.proofs.ContextLemmas.{opened_tied, opened_value}
 use Rattle.gateway_replies.proofs.HookLemmas.{brings, no_stock_yet}
 use Rattle.gateway_replies.proofs.PeerLemmas.{peer_in}
@@ -27,3 +27,15 @@ returns-clause-hooks g c =
     c.into_hooks-stock.ensures.all c.into_hooks-stock.ensures.full
     (no_stock_yet c.args.number c.self.inside.peers.items (sym (peer_in c.args.number (peer_ties c.self.inside.peers.items) c.self.inside.contexts.standing.conns c.self.invariant.conns_are)
     ∙ ap (λ (u : HookedContexts _). is_peer c.args.number u.standing.conns) c.self.view_is ∙ c.requires c.args.number (omega arith)))
+
+pub returns-then-is_err : goal.returns-then-is_err
+returns-then-is_err g c = record { ok = tt; hooks = tt; back = refl; err = rw c.reserve.ensures.items c.self.view_is }
+
+pub returns-in_default : goal.returns-in_default
+returns-in_default g c = record { ok = tt; hooks = tt; back = refl; err = rw (c.reserve.ensures.items, c.in_default.ensures.unchanged) c.self.view_is }
+
+pub invariant_of-self : goal.invariant_of-self
+invariant_of-self g c = rw c.reserve.ensures.items c.self.invariant
+
+pub invariant_of-self-in_default : goal.invariant_of-self-in_default
+invariant_of-self-in_default g c = rw (c.reserve.ensures.items, c.in_default.ensures.unchanged) c.self.invariant
