@@ -1,16 +1,24 @@
 -- A kept call: as many tasks are active as branches are out, and those that wait are the ones that have not started.
-use Rattle.gateway_connection.specs.lemmas.Names.{◌≡◌, ℕ, ◌+◌, ◌≤◌, ◌<◌, ◌-◌, Bool, true, false, List, [], ◌∷◌, ◌++◌, map, length, drop, Option, None, Some, Result, Ok, Err, refl, sym, ap, ◌∙◌, subst, arith, slice_index_or, ◌⊎◌, All, if◌then◌else◌, ◌==◌, slice_set, slice_get, option_to_list, count_by, ne_eqb, eqb-true, get_or-set_other, length-set, length-append, sum_by-set, Outcome, CallEvent, CallId, CallRecord, task_of, job_at, TaskValue, KeptValue, ArrivedCall, IsLawful, record_of, deadlines_next, result_on, next_out, rest_of, first_of, LiveValue, live_value, kept_value, started_of, IsGoing, IsKept, IsStep, nat_tests}
+use Rattle.gateway_connection.specs.lemmas.Names.{◌≡◌, ℕ, ◌+◌, ◌≤◌, ◌<◌, ◌-◌, Bool, true, false, List, [], ◌∷◌, ◌++◌, map, length, drop, Option, None, Some, Result, Ok, Err, refl, sym, ap, ◌∙◌, subst, arith, slice_index_or, ◌⊎◌, All, if◌then◌else◌, ◌==◌, slice_set, slice_get, option_map, option_to_list, count_by, list_any, nat_lt, ne_eqb, eqb-true, get_or-set_other, length-set, length-append, lt-ltb, sum_by-cons, sum_by-set, Outcome, CallEvent, CallId, CallRecord, task_of, job_at, TaskValue, KeptValue, ArrivedCall, IsLawful, record_of, deadlines_next, result_on, next_out, rest_of, first_of, LiveValue, live_value, kept_value, started_of, IsGoing, IsKept, IsStep, nat_tests}
+use Rattle.std.specs.Prelude.{cond}
 use Rattle.connect_codec.specs.declared.answer.Outcome.TheVariants.{Answer}
 use Rattle.err_group.specs.GroupState.{GroupState, Finishes, freed_by}
 use Rattle.gateway_model.specs.declared.call_event.CallEvent.TheVariants.{Answer as Answered}
 use Rattle.gateway_model.specs.Job.{JobValue}
 use Rattle.gateway_theory.specs.LiveStands.{tasks_from}
+use Rattle.gateway_connection.specs.KeptCall.{live_of}
 use Rattle.gateway_theory.specs.lemmas.StepLemmas.{tasks_none, tasks_next}
 use Rattle.gateway_theory.specs.lemmas.Knowing.{index_in as within}
 
 -- how many branches are out
 abbrev pub outs : List Bool → ℕ
 outs out = count_by (λ b. b) out
+
+-- one is out exactly if their number is not 0
+pub any_out : (out : List Bool) → nat_lt 0 (outs out) ≡ list_any (λ b. b) out
+any_out [] = refl
+any_out (true ∷ out) = let one : outs (true ∷ out) ≡ 1 + outs out = sum_by-cons (λ (b : Bool). cond b 1 0) true out in lt-ltb 0 (outs (true ∷ out)) (omega (arith, one))
+any_out (false ∷ out) = any_out out
 
 pub count_back : (out : List Bool) (i : ℕ) → slice_index_or out i false ≡ true → outs (slice_set out i false) + 1 ≡ outs out
 count_back out i it = grind (arith, nat_tests, sum_by-set, within)
@@ -30,6 +38,15 @@ late_kept id out i g h k it finishes =
       active_is = f.active ∙ ap (λ q. if length q == 0 then g.active - 1 else g.active) k.live_is ∙ omega (arith, k.active_is, count_back out i it);
       live_is = f.queue ∙ ap (λ q. drop 1 q) k.live_is;
     }
+
+pub late_now : (id : CallId) (out : List Bool) (i : ℕ) (g h : GroupState TaskValue (Unit {0})) (l new : Option LiveValue) → IsKept id out g l → slice_index_or out i false ≡ true
+    → (0 < g.active → Finishes g h (Err tt)) → l ≡ None → new ≡ None → IsKept id (slice_set out i false) h new
+late_now id out i g h l new k it finishes none new_none =
+    subst (λ x. IsKept id (slice_set out i false) h x) (sym new_none) (late_kept id out i g h (subst (λ x. IsKept id out g x) none k) it finishes)
+
+pub no_live : (waiting : List TaskValue) (l : Option LiveValue) → option_map (live_of waiting) l ≡ None → l ≡ None
+no_live waiting None none = refl
+no_live waiting (Some l) none = absurd (cc)
 
 -- ---- the end of a call
 

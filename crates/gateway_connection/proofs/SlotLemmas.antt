@@ -1,5 +1,6 @@
 -- The slots of a connection, as its replies fill them.
-use Rattle.gateway_connection.specs.lemmas.Names.{option_or, subst, ◌≡◌, ℕ, zero, suc, ◌+◌, ◌-◌, ◌≤◌, ◌<◌, Bool, true, false, nat_lt, List, [], ◌∷◌, ◌++◌, length, map, drop, Option, None, Some, refl, sym, ap, ◌∙◌, arith, slice_index_or, ◌==◌, All, if◌then◌else◌, is_none, slice_get, slice_set, eq-eqb, le-ltb, ltb-false, ltb-true, ne_eqb, get_or-map, get_or_default, map-set, All-cons, All-head, All-nil, All-tail, ReaderValue, ReplyEntry, call_id, AreInPlace, entry_in, fill_at, reply_for, KeptValue, HeldConnection, held_connection, ReplyValue, TakesReply, replied, held_by, filled_by, reply_in, nat_tests}
+use Rattle.gateway_connection.specs.lemmas.Names.{option_or, subst, ◌≡◌, ℕ, zero, suc, ◌+◌, ◌-◌, ◌≤◌, ◌<◌, Bool, true, false, nat_lt, List, [], ◌∷◌, ◌++◌, ◌⊎◌, ⊎_elim, inl, inr, length, map, drop, Option, None, Some, refl, sym, ap, ◌∙◌, arith, slice_index_or, ◌==◌, All, if◌then◌else◌, is_none, is_some, count_by, take, slice_get, slice_set, eq-eqb, le-ltb, ltb-false, ltb-true, ne_eqb, get_or-map, get_or_default, map-set, All-cons, All-head, All-nil, All-tail, ReaderValue, ReplyEntry, call_id, AreInPlace, entry_in, fill_at, reply_for, KeptValue, HeldConnection, held_connection, ReplyValue, TakesReply, replied, held_by, filled_by, reply_in, nat_tests}
+use Rattle.std.proofs.lemmas.List.Sums.{count_by_more_no, count_by_more_yes}
 use Rattle.gateway_theory.specs.Conn.{slot_at}
 use Rattle.gateway_theory.specs.Connection.{filled}
 
@@ -129,3 +130,44 @@ more_place number taken items own = λ j r is. own j r (before items j r is)
     before [] (suc j) r is = absurd (cc)
     before (x ∷ items) zero r is = is
     before (x ∷ items) (suc j) r is = before items j r is
+
+-- a reply stands in the slot of its request
+pub set_place : (number taken : ℕ) (items : List (Option ReplyValue)) (i : ℕ) (r : ReplyValue) → r.id ≡ call_id number (taken + i) → AreInPlace number taken items → AreInPlace number taken (slice_set items i (Some r))
+set_place number taken items i r its own = λ j x is. ⊎_elim (own j x)
+    (λ (new : (j ≡ i) × (r ≡ x)). sym (ap (λ (y : ReplyValue). y.id) new.1) ∙ its ∙ ap (λ k. call_id number (taken + k)) (sym new.0)) (at items i j x is)
+  where
+    some : {A : Type 0} {x y : A} → Some x ≡ Some y → x ≡ y
+    some e = cc
+
+    at : (items : List (Option ReplyValue)) (i j : ℕ) (x : ReplyValue) → slice_get (slice_set items i (Some r)) j ≡ Some (Some x) → (slice_get items j ≡ Some (Some x)) ⊎ ((j ≡ i) × (r ≡ x))
+    at [] i j x is = inl is
+    at (y ∷ items) zero zero x is = inr (refl, some (some is))
+    at (y ∷ items) zero (suc j) x is = inl is
+    at (y ∷ items) (suc i) zero x is = inl is
+    at (y ∷ items) (suc i) (suc j) x is = ⊎_elim inl (λ (new : (j ≡ i) × (r ≡ x)). inr (ap suc new.0, new.1)) (at items i j x is)
+
+-- .. and one that came last in the last one
+pub push_place : (number taken : ℕ) (items : List (Option ReplyValue)) (r : ReplyValue) → r.id ≡ call_id number (taken + length items) → AreInPlace number taken items → AreInPlace number taken (items ++ Some r ∷ [])
+push_place number taken items r its own = λ j x is. ⊎_elim (own j x)
+    (λ (new : (j ≡ length items) × (r ≡ x)). sym (ap (λ (y : ReplyValue). y.id) new.1) ∙ its ∙ ap (λ k. call_id number (taken + k)) (sym new.0)) (at items j x is)
+  where
+    some : {A : Type 0} {x y : A} → Some x ≡ Some y → x ≡ y
+    some e = cc
+
+    at : (items : List (Option ReplyValue)) (j : ℕ) (x : ReplyValue) → slice_get (items ++ Some r ∷ []) j ≡ Some (Some x) → (slice_get items j ≡ Some (Some x)) ⊎ ((j ≡ length items) × (r ≡ x))
+    at [] zero x is = inr (refl, some (some is))
+    at [] (suc j) x is = absurd (cc)
+    at (y ∷ items) zero x is = inl is
+    at (y ∷ items) (suc j) x is = ⊎_elim inl (λ (new : (j ≡ length items) × (r ≡ x)). inr (ap suc new.0, new.1)) (at items j x is)
+
+-- ---- how many of the first slots are empty
+
+pub one_more_empty : (slots : List (Option ReplyEntry)) (i n : ℕ) → i < length slots → slot_at i slots ≡ None → n ≡ count_by is_none (take i slots) → n + 1 ≡ count_by is_none (take (i + 1) slots)
+one_more_empty slots i n lt none is = ap (λ k. k + 1) is ∙ sym (count_by_more_yes is_none slots i None lt (ap is_none none))
+
+pub as_many_empty : (slots : List (Option ReplyEntry)) (i n : ℕ) → i < length slots → is_some (slot_at i slots) ≡ true → n ≡ count_by is_none (take i slots) → n ≡ count_by is_none (take (i + 1) slots)
+as_many_empty slots i n lt some is = is ∙ sym (count_by_more_no is_none slots i None lt (full (slot_at i slots) some))
+  where
+    full : (o : Option ReplyEntry) → is_some o ≡ true → is_none o ≡ false
+    full None is_full = absurd (let clash : false ≡ true = is_full in cc)
+    full (Some e) is_full = refl

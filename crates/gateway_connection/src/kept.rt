@@ -22,7 +22,6 @@ use std::alloc::{AllocError, Global};
 use std::marker::Model;
 
 /// A call that is kept: its branches, and the call as long as it can be decided.
-#[derive(Drop)]
 pub struct Kept {
     pub(crate) id: CallId,
     /// Which branches are out: started, and with no result since.
@@ -39,6 +38,18 @@ pub struct AfterResult {
     pub(crate) decided: Option<CallRecord>,
     /// The branch that starts in the other's place.
     pub(crate) next: Option<Task>,
+}
+
+// by hand, so that a drop is one call, where a derived one is written out at each return
+impl Drop for Kept {
+    fn drop(self) {
+        let Kept {
+            id: _,
+            out: _,
+            group: _,
+            live: _,
+        } = self;
+    }
 }
 
 impl Model for Kept {
@@ -71,7 +82,7 @@ impl Kept {
     pub(crate) fn is_any_out(&self) -> bool
         ensures { result ≡ list_any (λ b. b) self.now.call.out }
     {
-        self.out.iter().any(|out| *out)
+        self.group.active() > 0
     }
 
     /// Whether the branch is out.

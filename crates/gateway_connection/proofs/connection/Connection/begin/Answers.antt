@@ -4,6 +4,12 @@ use Rattle.gateway_connection.proofs.HoldsLemmas.{holds_begun}
 use Rattle.gateway_connection.proofs.SlotLemmas.{more_place}
 use Rattle.gateway_connection.proofs.connection.Connection.begin.Goals as goal
 
+pub invariant_of-self : goal.invariant_of-self
+invariant_of-self g c = (
+  c.self.invariant.0,
+  subst (λ ks. Holds (held_by c.self.inside.number c.self.inside.taken c.self.inside.slots.items ks c.self.inside.broken c.self.inside.closed c.self.inside.hung_up c.self.inside.reader)) (sym c.reserve.ensures.items) c.self.invariant.1,
+)
+
 pub invariant_of-self-in_err-reserve-2 : goal.invariant_of-self-in_err-reserve-2
 invariant_of-self-in_err-reserve-2 g c = (
   subst (AreInPlace c.self.inside.number c.self.inside.taken) (sym c.reserve-2.ensures.items) c.self.invariant.0,

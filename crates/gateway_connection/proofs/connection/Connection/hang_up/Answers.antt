@@ -1,4 +1,5 @@
-use Rattle.gateway_connection.specs.lemmas.Names.{◌∙◌, [], ap, sym, subst, HungUp, told, hung_held, HeldConnection, LeavesRest, MayStep, over_by}
+use Rattle.gateway_connection.specs.lemmas.Names.{◌∙◌, [], ap, held_by, refl, sym, subst, true, HungUp, told, hung_held, HeldConnection, LeavesRest, MayStep, over_by}
+use Rattle.gateway_connection.proofs.HoldsLemmas.{holds_as}
 use Rattle.gateway_connection.proofs.LentLemmas.{rest_none}
 use Rattle.gateway_connection.proofs.StreamLemmas.{hung_may, hung_rest}
 use Rattle.gateway_connection.proofs.connection.Connection.hang_up.Goals as goal
@@ -20,3 +21,11 @@ returns-clause-rest g c =
 
 pub returns-then-not-is_listening-clause-rest : goal.returns-then-not-is_listening-clause-rest
 returns-then-not-is_listening-clause-rest g c = rest_none c.args.self.now c.args.shared.now
+
+pub invariant_of-self : goal.invariant_of-self
+invariant_of-self g c = (
+  c.self.invariant.0,
+  holds_as (held_by c.self.inside.number c.self.inside.taken c.self.inside.slots.items c.self.inside.calls.items c.self.inside.broken c.self.inside.closed c.self.inside.hung_up c.self.inside.reader)
+      (held_by c.self.inside.number c.self.inside.taken c.self.inside.slots.items c.self.inside.calls.items c.self.inside.broken c.self.inside.closed true c.self.inside.reader)
+      refl refl refl refl refl c.self.invariant.1,
+)

@@ -36,6 +36,9 @@ returns-in_default-clause-unchanged g c = (ap (λ es. gateway_of c.self.inside.s
 pub returns-in_default-clause-keeps : goal.returns-in_default-clause-keeps
 returns-in_default-clause-keeps g c = subst (λ x. Keeps (λ d. false) x (gateway_of c.self.inside.shared c.insert.new.self.entries c.self.inside.opened c.self.inside.tally)) c.self.view_is (same_keeps (gateway_of c.self.inside.shared c.self.inside.conns.entries c.self.inside.opened c.self.inside.tally) (gateway_of c.self.inside.shared c.insert.new.self.entries c.self.inside.opened c.self.inside.tally) (λ d. false) (ap (λ es. gateway_of c.self.inside.shared es c.self.inside.opened c.self.inside.tally) c.in_default.ensures.err) c.self.invariant.serving)
 
+pub invariant_of-self : goal.invariant_of-self
+invariant_of-self g c = subst (λ es. IsWhole c.self.inside.shared es c.self.inside.opened c.self.inside.open c.self.inside.tally) (sym c.in_default.ensures.err) c.self.invariant
+
 pub open-requires : goal.open-requires
 open-requires g c = no_peer c.self.invariant
 
