@@ -1,4 +1,1 @@
-pub mod Names
-mod WorkLemmas
-mod ExchangeLemmas
-mod BookLemmas
+pub mod Lemmas

@@ -17,7 +17,7 @@ use Rattle.gateway_theory.specs.Told.{BeginsWithin, IsWanted}
 use Rattle.gateway_theory.specs.declared.fault.StepFault.{StepFault}
 use Rattle.gateway_theory.specs.declared.fault.StepFault.TheVariants.{Exhausted}
 use Rattle.gateway_theory.specs.Tally.{tally_of}
-use Rattle.backend_pool.specs.declared.shares.Totals.{Totals}
+use Rattle.backend_pool.specs.declared.counter.Totals.{Totals}
 use Rattle.backend_pool.specs.declared.next_reply.NextReply.{NextReply}
 use Rattle.backend_pool.specs.declared.next_reply.NextReply.TheVariants.{Ready, Pending, Over}
 

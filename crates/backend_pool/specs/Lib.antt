@@ -1,3 +1,2 @@
 pub mod Work
-pub mod Exchange
 pub mod Book

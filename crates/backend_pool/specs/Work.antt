@@ -1,12 +1,15 @@
--- What a worker does with the jobs that it takes.
+-- What a worker does with the jobs that it takes, and what an exchange over ends that wait writes and reads.
 use Rattle.std.specs.Prelude.{◌≡◌, ℕ, ◌≤◌, ⊤, Bool, true, false, List, [], ◌∷◌, ◌++◌, length, Option, Some, None, Result, Ok, Err, MatchBool}
 use Rattle.std.specs.List.{AllZip}
+use Rattle.std.specs.Io.KnownBytes.{Appends, Consumes}
+use Rattle.http_pieces.specs.declared.reply.HttpReply.{HttpReply}
 use Rattle.connect_codec.specs.declared.answer.Outcome.{Outcome}
 use Rattle.gateway_theory.specs.Task.{HandedJob}
+use Rattle.branch_exchange.specs.Exchange.{BeginsWithReply}
 use Rattle.branch_exchange.specs.Outcomes.{outcome_of_asked}
 use Rattle.branch_exchange.specs.declared.asked.Asked.{Asked}
 use Rattle.branch_exchange.specs.declared.asked.Asked.TheVariants.{Lost}
-use Rattle.backend_pool.specs.declared.desk_record.DeskRecord.{DeskRecord}
+use Rattle.backend_pool.specs.declared.working.DeskRecord.{DeskRecord}
 
 -- ---- what is recorded of a job
 
@@ -76,3 +79,13 @@ unrecorded false = 1
 abbrev pub uncounted : {E : Type 0} → Result ⊤ E → ℕ
 uncounted (Ok done) = 0
 uncounted (Err full) = 1
+
+-- ---- an exchange
+
+-- known bytes grew by the first of what was left
+abbrev pub SendsOn : Option (List ℕ) → Option (List ℕ) → List ℕ → List ℕ → Type 0
+SendsOn old new left rest = (sent : List ℕ) × Appends old new sent × (left ≡ sent ++ rest)
+
+-- bytes were read that begin with this reply
+abbrev pub ReadsReply : Option (List ℕ) → Option (List ℕ) → HttpReply → Type 0
+ReadsReply old new reply = (bytes : List ℕ) × Consumes old new bytes × BeginsWithReply bytes reply

@@ -18,10 +18,8 @@ ghost use Rattle.gateway_model.specs.History.{History, no_history};
 ghost use Rattle.backend_pool.specs.declared.next_reply.NextReply.{NextReply};
 ghost use Rattle.backend_pool.specs.Book.{book_value, BookStands, GivesJob, HandsJobs, HandsReply, job_list, most_total, OpensFew, reply_given, TakesEvent, TakesOpening, TellsPiece, totals_of};
 
-use crate::counter::Counter;
-use crate::ledger_full::LedgerFull;
+use crate::counter::{Blanks, Counter, LedgerFull, Shares, Totals};
 use crate::next_reply::NextReply;
-use crate::shares::{Blanks, Shares, Totals};
 use call_plan::Plans;
 use connect_codec::Outcome;
 use gateway_core::{
@@ -74,14 +72,9 @@ impl<H: ReplyHook + Drop, L: Ledger, J: Ledger, K: Ledger> Book<H, L, J, K> {
             × (r.1.results.amount ≡ 0)) }
     {
         let core = Core::new(alloc, plans)?;
-        let Blanks {
-            bytes,
-            jobs,
-            results,
-        } = blanks;
-        let (bytes_book, bytes) = bytes.open::<L>();
-        let (jobs_book, jobs) = jobs.open::<J>();
-        let (results_book, results) = results.open::<K>();
+        let (bytes_book, bytes) = blanks.bytes.open::<L>();
+        let (jobs_book, jobs) = blanks.jobs.open::<J>();
+        let (results_book, results) = blanks.results.open::<K>();
         let book = Book {
             core,
             bytes: Counter::new(bytes_book),

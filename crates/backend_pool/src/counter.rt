@@ -2,7 +2,13 @@ ghost use Rattle.std.specs.Prelude.{◌≡◌, ◌+◌, ◌<◌, ◌≤◌, IsTr
 ghost use Rattle.backend_pool.specs.Book.{most_total};
 
 use std::marker::Model;
-use std::sync::ledger::{self, Ledger, Share};
+use std::sync::ledger::{self, Blank, Ledger, Share};
+use thiserror::Error;
+
+/// A total would pass 2^62. Nothing was done.
+#[derive(Clone, Copy, PartialEq, Eq, Debug, Error)]
+#[error("a total would pass 2^62")]
+pub struct LedgerFull;
 
 /// No total is greater.
 const MOST: u64 = 1 << 62;
@@ -73,4 +79,35 @@ impl<L: Ledger> Counter<L> {
         self.ledger.audit(mine);
         self.total
     }
+}
+
+/// New ledgers of bytes, jobs and results, which no type stands for yet.
+#[derive(Drop)]
+pub struct Blanks {
+    pub bytes: Blank,
+    pub jobs: Blank,
+    pub results: Blank,
+}
+
+/// Shares of the ledgers of bytes, jobs and results.
+#[derive(Drop)]
+pub struct Shares<L: Ledger, J: Ledger, K: Ledger> {
+    pub bytes: Share<L>,
+    pub jobs: Share<J>,
+    pub results: Share<K>,
+}
+
+/// A worker's shares, of the ledgers of jobs and results.
+#[derive(Drop)]
+pub struct WorkerShares<J: Ledger, K: Ledger> {
+    pub jobs: Share<J>,
+    pub results: Share<K>,
+}
+
+/// The bytes, jobs and results of a book.
+#[derive(Clone, Copy, PartialEq, Eq, Debug)]
+pub struct Totals {
+    pub bytes: u64,
+    pub jobs: u64,
+    pub results: u64,
 }

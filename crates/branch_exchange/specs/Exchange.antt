@@ -28,12 +28,6 @@ abbrev pub TakesIn : ReplyReaderValue → List ℕ → Option HttpReply → Type
 TakesIn reader text None = HasReadReply reader text None
 TakesIn reader text (Some reply) = BeginsWithReply text reply
 
--- the reply, where nothing is left to be written; else it is lost
-abbrev pub IsAnswer : List ℕ → HttpReply → ExchangeEnd → Type 0
-IsAnswer left reply (Reply r) = (r ≡ reply) × (left ≡ [])
-IsAnswer left reply (Lost cause) = cause ≡ loss.Early
-IsAnswer left reply NoMemory = ⊥
-
 -- a reply is refused only where the text is
 abbrev pub IsLostBy : List ℕ → Loss → Type 0
 IsLostBy text (loss.Refused fault) = IsCut reply_kind text (Refused fault)
@@ -45,13 +39,6 @@ loss_in state.More = loss.Reads
 loss_in (state.Refused fault) = loss.Refused fault
 loss_in state.Complete = loss.End
 loss_in state.Ended = loss.End
-
--- the text has no whole reply yet and was read by this reader, or none will come
-abbrev pub GoesOn : ReplyReaderValue → List ℕ → Option ExchangeEnd → Type 0
-GoesOn reader text None = HasReadReply reader text None
-GoesOn reader text (Some (Reply reply)) = ⊥
-GoesOn reader text (Some (Lost cause)) = IsLostBy text cause
-GoesOn reader text (Some NoMemory) = ⊥
 
 -- The text has no whole reply yet; or it begins with the reply that is given, and nothing was left to be written; or none will come.
 abbrev pub ComesTo : List ℕ → ReplyReaderValue → List ℕ → Option ExchangeEnd → Type 0

@@ -1,6 +1,6 @@
 ghost use Rattle.std.specs.Prelude.{◌≡◌, ◌++◌, ◌≤◌, [], ℕ, List, Some, None, IsTrue, IfOk, ◌↔◌, drop, length};
 ghost use Rattle.http_pieces.specs.ReplyReader.{HasReadReply};
-ghost use Rattle.branch_exchange.specs.Exchange.{ComesTo, GoesOn, IsAnswer, TakesIn, exchange_value, loss_in};
+ghost use Rattle.branch_exchange.specs.Exchange.{ComesTo, TakesIn, exchange_value, loss_in};
 
 use crate::exchange_end::{ExchangeEnd, Loss};
 use http_pieces::laws::reply_cut_law;
@@ -74,20 +74,10 @@ impl Exchange {
             → ComesTo self.old.left self.new.replies (bytes ++ piece.now) result }
     {
         match take_in(&mut self.replies, piece) {
-            Ok(Some(reply)) => Some(self.answer(reply)),
+            Ok(Some(reply)) if self.is_sent() => Some(ExchangeEnd::Reply(reply)),
+            Ok(Some(_)) => Some(ExchangeEnd::Lost(Loss::Early)),
             Ok(None) => self.go_on(),
             Err(_) => Some(ExchangeEnd::NoMemory),
-        }
-    }
-
-    /// The reply, if its request was written whole.
-    fn answer(&self, reply: HttpReply) -> ExchangeEnd
-        ensures { IsAnswer self.now.left reply result }
-    {
-        if self.request.is_empty() {
-            ExchangeEnd::Reply(reply)
-        } else {
-            ExchangeEnd::Lost(Loss::Early)
         }
     }
 
@@ -95,7 +85,8 @@ impl Exchange {
     /// A piece more was read. None where the reply may become whole.
     fn go_on(&mut self) -> Option<ExchangeEnd>
         ensures same { self.new ≡ self.old }
-        ensures goes { (bytes : List ℕ) → HasReadReply self.old.replies bytes None → GoesOn self.new.replies bytes result }
+        ensures comes { (bytes : List ℕ) → HasReadReply self.old.replies bytes None
+            → ComesTo self.old.left self.new.replies bytes result }
     {
         self.reads = self.reads.saturating_add(1);
         let state = self.replies.state();

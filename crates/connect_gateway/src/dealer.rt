@@ -1,8 +1,7 @@
 ghost use Rattle.std.specs.Prelude.{⊤};
 
 use crate::admin_door::{AdminDoor, Now};
-use crate::clock::SinceStart;
-use crate::host::Host;
+use crate::host::{Host, SinceStart};
 use crate::loop_log::LogLines;
 use crate::loop_side::{LoopSide, Mail};
 use crate::socket::{Seat, Socket};
@@ -12,7 +11,7 @@ use gateway_loop::Dealt;
 use mio::net::{TcpListener, TcpStream};
 use mio::{Events, Interest, Poll, Token, Waker};
 use script_replay::{Fault, stock};
-use std::alloc::{AllocError, Global};
+use std::alloc::Global;
 use std::io::{self, ErrorKind};
 use std::marker::Model;
 use std::net::Net;
@@ -51,8 +50,10 @@ pub(crate) struct Dealer<M> {
     listener: Option<TcpListener>,
     poll: Poll,
     events: Events,
-    waker: Arc<Waker>,
-    sides: Vec<Arc<LoopSide>>,
+    /// What wakes main.
+    pub(crate) waker: Arc<Waker>,
+    /// What the loops share with main.
+    pub(crate) sides: Vec<Arc<LoopSide>>,
     admin: Option<AdminDoor>,
     log: Option<LogLines>,
     // how many streams were closed without a byte
@@ -80,7 +81,12 @@ impl<M: Host + Net> Dealer<M> {
     ) -> Result<Dealer<M>, Fault> {
         let mut listener = listener;
         let mut admin = admin;
-        let poll = watch(&rt, &mut listener, &mut admin)?;
+        let poll = Poll::new(&rt)?;
+        poll.registry()
+            .register(&mut listener, LISTENER, Interest::READABLE)?;
+        if let Some(door) = &mut admin {
+            door.watch(&poll)?;
+        }
         let waker = Waker::new(poll.registry(), WAKER)?;
         Ok(Dealer {
             rt,
@@ -96,17 +102,6 @@ impl<M: Host + Net> Dealer<M> {
             unserved: 0,
             stage: Stage::Serves,
         })
-    }
-
-    /// What wakes main.
-    pub(crate) fn waker(&self) -> &Arc<Waker> {
-        &self.waker
-    }
-
-    /// One more loop, by what it shares with main.
-    pub(crate) fn add(&mut self, side: &Arc<LoopSide>) -> Result<(), AllocError> {
-        self.sides.push(Arc::try_clone(side)?)?;
-        Ok(())
     }
 
     /// Listens no more, and deals no more.
@@ -168,9 +163,8 @@ impl<M: Host + Net> Dealer<M> {
                 Err(_) => {
                     thread::sleep(&rt, Duration::from_millis(PAUSE));
                     self.look();
-                    if !self.is_asking() {
-                        tries = tries.saturating_add(1);
-                    }
+                    let is_asking = self.sides.iter().any(|side| side.standing(&rt).asking > 0);
+                    tries = tries.saturating_add(u32::from(!is_asking));
                 }
             }
         }
@@ -206,10 +200,8 @@ impl<M: Host + Net> Dealer<M> {
     /// Waits for so many milliseconds at most, attends to operators, and tells the loops how far a drain is.
     fn wait(&mut self, most: Option<u64>) -> io::Result<()> {
         let moment = self.clock.now(&self.rt);
-        let mut timeout = most;
-        if let Some(door) = &self.admin {
-            timeout = sooner(timeout, door.time_left(moment));
-        }
+        let left = self.admin.as_ref().and_then(|door| door.time_left(moment));
+        let timeout = sooner(most, left);
         self.poll
             .poll(&mut self.events, timeout.map(Duration::from_millis))?;
         let now = Now {
@@ -259,10 +251,8 @@ impl<M: Host + Net> Dealer<M> {
 
     /// Hands a stream to the loop with the fewest connections. One for which there is no place or no memory is closed.
     fn deal(&self, stream: TcpStream) -> Result<(), Unserved> {
-        match self.emptiest() {
-            Some(side) => self.hand_to(side, stream).ok_or(Unserved::NoMemory),
-            None => Err(Unserved::NoPlace),
-        }
+        let side = self.emptiest().ok_or(Unserved::NoPlace)?;
+        self.hand_to(side, stream).ok_or(Unserved::NoMemory)
     }
 
     /// Hands a stream to this loop. None where it is closed instead.
@@ -294,28 +284,6 @@ impl<M: Host + Net> Dealer<M> {
         }
         found
     }
-
-    /// Whether a backend is asked.
-    fn is_asking(&self) -> bool {
-        self.sides
-            .iter()
-            .any(|side| side.standing(&self.rt).asking > 0)
-    }
-}
-
-/// What waits for streams, and for operators if there is an address for them.
-fn watch<R: Net>(
-    rt: &R,
-    listener: &mut TcpListener,
-    admin: &mut Option<AdminDoor>,
-) -> io::Result<Poll> {
-    let poll = Poll::new(rt)?;
-    poll.registry()
-        .register(listener, LISTENER, Interest::READABLE)?;
-    if let Some(door) = admin {
-        door.watch(&poll)?;
-    }
-    Ok(poll)
 }
 
 /// What accepting came to.
@@ -330,9 +298,5 @@ enum Accepted {
 
 /// The shorter of two times, of which either may be absent.
 pub(crate) fn sooner(one: Option<u64>, other: Option<u64>) -> Option<u64> {
-    match (one, other) {
-        (Some(one), Some(other)) => Some(one.min(other)),
-        (Some(time), None) | (None, Some(time)) => Some(time),
-        (None, None) => None,
-    }
+    one.into_iter().chain(other).min()
 }

@@ -1,5 +1,6 @@
 ghost use Rattle.std.specs.Prelude.{⊤};
 
+use crate::host::NetHost;
 use crate::socket::Socket;
 use admin::{LoopCounts, Stage};
 use crossbeam_channel::{Receiver, Sender, unbounded};
@@ -9,8 +10,11 @@ use mio::Waker;
 use script_replay::PlainHook;
 use std::alloc::{AllocError, Global};
 use std::marker::Model;
+use std::net::{Net, SocketAddr, ToSocketAddrs};
 use std::sync::atomic::{AtomicBool, AtomicU64, Ordering};
 use std::sync::{Arc, Mutex, Wait};
+use std::thread;
+use std::time::{Clock, Duration};
 use wires::Told;
 
 /// What other threads hand to a loop.
@@ -36,10 +40,12 @@ pub(crate) struct LoopSide {
     // how it stood after its last turn
     standing: Mutex<LoopStanding>,
     is_closed: AtomicBool,
-    // how far a drain is
-    closes_idle: AtomicBool,
-    ends_calls: AtomicBool,
-    is_cut: AtomicBool,
+    /// Whether connections are to be closed as soon as nothing is owed to them.
+    pub(crate) closes_idle: AtomicBool,
+    /// Whether calls that are left are to be ended.
+    pub(crate) ends_calls: AtomicBool,
+    /// Whether streams that are left are to be cut.
+    pub(crate) is_cut: AtomicBool,
     is_over: AtomicBool,
 }
 
@@ -64,7 +70,17 @@ impl LoopSide {
             open: Arc::new(alloc, AtomicU64::new(0))?,
             counts,
             unserved: AtomicU64::new(0),
-            standing: Mutex::new(of_no_turn()),
+            standing: Mutex::new(LoopStanding {
+                open: 0,
+                lingering: 0,
+                asking: 0,
+                waiting: 0,
+                tally: Tally {
+                    counted: 0,
+                    late: 0,
+                    unknown: 0,
+                },
+            }),
             is_closed: AtomicBool::new(false),
             closes_idle: AtomicBool::new(false),
             ends_calls: AtomicBool::new(false),
@@ -76,13 +92,10 @@ impl LoopSide {
 
     /// Hands something in, and wakes the loop. Hands it back where the loop is over, and where there is no memory.
     pub(crate) fn hand_in<R: Wait>(&self, rt: &R, mail: Mail) -> Result<(), Mail> {
-        match self.mail.send(rt, mail) {
-            Ok(()) => {
-                self.wake();
-                Ok(())
-            }
-            Err(refused) => Err(refused.into_inner()),
-        }
+        let sent = self.mail.send(rt, mail);
+        sent.map_err(|refused| refused.into_inner())?;
+        self.wake();
+        Ok(())
     }
 
     /// No more streams will come: the loop ends once its clients have gone.
@@ -111,21 +124,6 @@ impl LoopSide {
         }
     }
 
-    /// Connections are to be closed as soon as nothing is owed to them.
-    pub(crate) fn closes_idle(&self) -> bool {
-        self.closes_idle.load(Ordering::SeqCst)
-    }
-
-    /// Calls that are left are to be ended.
-    pub(crate) fn ends_calls(&self) -> bool {
-        self.ends_calls.load(Ordering::SeqCst)
-    }
-
-    /// Streams that are left are to be cut.
-    pub(crate) fn is_cut(&self) -> bool {
-        self.is_cut.load(Ordering::SeqCst)
-    }
-
     /// It serves nobody any more.
     pub(crate) fn end(&self) {
         self.is_over.store(true, Ordering::SeqCst);
@@ -151,17 +149,84 @@ impl LoopSide {
     }
 }
 
-/// How a loop stands before its first turn.
-fn of_no_turn() -> LoopStanding {
-    LoopStanding {
-        open: 0,
-        lingering: 0,
-        asking: 0,
-        waiting: 0,
-        tally: Tally {
-            counted: 0,
-            late: 0,
-            unknown: 0,
-        },
+/// So many names are looked up at the same time.
+const LOOKERS: u32 = 4;
+
+/// What failed is tried again after so many milliseconds: a wait of a loop, and handing in what was found for a name.
+pub(crate) const PAUSE: u64 = 10;
+
+/// A name, and the loop that waits for its addresses.
+#[derive(Drop)]
+pub(crate) struct Name {
+    name: String,
+    side: Arc<LoopSide>,
+}
+
+impl Name {
+    /// A name that this loop waits for.
+    pub(crate) fn new(alloc: Global, name: &str, side: &Arc<LoopSide>) -> Result<Name, AllocError> {
+        Ok(Name {
+            name: String::from_str(alloc, name)?,
+            side: Arc::try_clone(side)?,
+        })
     }
+}
+
+/// Where names are handed in to be looked up, if there are any, by threads of their own, since the system offers no look-up
+/// that does not wait.
+///
+/// The threads end with all copies of that, and are never joined: a look-up takes as long as the system's servers of names let
+/// it, and the program's end waits for none. A thread that still runs when `main` returns is cut off by the system, and what it
+/// holds is its own.
+pub(crate) fn resolver<M: NetHost>(
+    rt: M,
+    alloc: Global,
+    looks_up: bool,
+) -> Result<Sender<Name>, AllocError> {
+    let (asked, names) = unbounded(alloc)?;
+    if looks_up {
+        for _looker in 0..LOOKERS {
+            let names: Receiver<Name> = names.clone()?;
+            drop(thread::spawn(&rt, move || look_up_all(&rt, alloc, &names))?);
+        }
+    }
+    Ok(asked)
+}
+
+fn look_up_all<R: Net + Wait + Clock>(rt: &R, alloc: Global, names: &Receiver<Name>) {
+    for _ in rt.forever() {
+        let Ok(Name { name, side }) = names.recv(rt) else {
+            return;
+        };
+        let addresses = look_up(rt, alloc, name.as_str());
+        hand_in(rt, &side, LookedUp { name, addresses });
+    }
+    unreachable!()
+}
+
+/// The addresses of a name in the system's order: none where there is no such name, and where there is no memory.
+fn look_up<R: Net>(rt: &R, alloc: Global, name: &str) -> Vec<SocketAddr> {
+    let mut addresses = Vec::new(alloc);
+    if let Ok(found) = name.to_socket_addrs(rt) {
+        for address in found {
+            if addresses.push(address).is_err() {
+                break;
+            }
+        }
+    }
+    addresses
+}
+
+/// Hands in what was found as soon as there is memory for that: a loop waits for it.
+fn hand_in<R: Wait + Clock>(rt: &R, side: &LoopSide, found: LookedUp) {
+    let mut mail = Mail::Found(found);
+    for _ in rt.forever() {
+        match side.hand_in(rt, mail) {
+            Ok(()) => return,
+            Err(_) if side.is_over() => return,
+            Err(back) => mail = back,
+        }
+        thread::sleep(rt, Duration::from_millis(PAUSE));
+    }
+    unreachable!()
 }

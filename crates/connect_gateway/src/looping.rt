@@ -1,28 +1,27 @@
-ghost use Rattle.std.specs.Prelude.{⊤};
+ghost use Rattle.std.specs.Prelude.{⊤, ◌≡◌, ◌∷◌, []};
 
-use crate::clock::SinceStart;
-use crate::host::Host;
+use crate::host::{Host, NetHost, SinceStart};
 use crate::loop_log::{LogLines, LoopLog};
-use crate::loop_side::{LoopSide, Mail};
-use crate::mio_network::{MioNetwork, WAKER};
-use crate::resolver::Name;
+use crate::loop_side::{LoopSide, Mail, Name, PAUSE};
 use crate::socket::Socket;
 use admin::{LoopCounts, ServedNames};
 use call_plan::Plans;
 use crossbeam_channel::{Receiver, Sender};
-use gateway_loop::{Comings, EventLoop};
-use mio::{Poll, Waker};
+use gateway_core::{CallId, ReplyEntry};
+use gateway_loop::{BranchEnd, Comings, EventLoop, Network, Ready};
+use http_server::Log;
+use mio::event::Event;
+use mio::unix::SourceFd;
+use mio::{Events, Interest, Poll, Token, Waker};
 use script_replay::{Fault, PlainHook};
 use std::alloc::{AllocError, Global};
 use std::marker::Model;
-use std::net::{Net, TcpListener, TcpStream};
+use std::net::SocketAddr;
 use std::sync::Arc;
-use std::thread;
+use std::sync::atomic::Ordering;
 use std::time::Duration;
+use std::{io, thread};
 use wires::Told;
-
-/// A wait that failed is made again after so many milliseconds.
-const PAUSE: u64 = 10;
 
 /// A loop ends where so many waits in a row failed.
 const MOST_FAILURES: u32 = 300;
@@ -54,35 +53,6 @@ impl<M> Model for Common<M> {
     ghost view = { λ _. tt };
 }
 
-impl<M: Host> Common<M> {
-    /// The sockets of the loop with that number, which are waited for by that poll.
-    fn network(
-        &self,
-        worker: u32,
-        poll: Poll,
-        side: &Arc<LoopSide>,
-    ) -> Result<MioNetwork<M>, AllocError> {
-        let side = Arc::try_clone(side)?;
-        let names = self.looked_up.clone()?;
-        let log = self.log(worker)?;
-        MioNetwork::new(self.rt, self.alloc, poll, self.clock, side, names, log)
-    }
-
-    fn log(&self, worker: u32) -> Result<Option<LoopLog>, AllocError> {
-        Ok(match &self.lines {
-            Some(lines) => Some(lines.of_loop(self.alloc, worker)?),
-            None => None,
-        })
-    }
-
-    fn counts(&self) -> Result<Option<LoopCounts>, AllocError> {
-        Ok(match &self.names {
-            Some(names) => Some(LoopCounts::new(self.alloc, names)?),
-            None => None,
-        })
-    }
-}
-
 /// A loop, and what its thread needs to run it.
 #[derive(Drop)]
 pub(crate) struct Looping<M> {
@@ -91,7 +61,8 @@ pub(crate) struct Looping<M> {
     network: MioNetwork<M>,
     comings: Comings<PlainHook, Told<Socket>>,
     mail: Receiver<Mail>,
-    side: Arc<LoopSide>,
+    /// What it shares with other threads.
+    pub(crate) side: Arc<LoopSide>,
     main: Arc<Waker>,
     // whether the drain has ended the calls that were left
     has_ended_calls: bool,
@@ -104,15 +75,20 @@ impl<M> Model for Looping<M> {
     ghost view = { λ _. tt };
 }
 
-impl<M: Host + Net<Listener = TcpListener, Stream = TcpStream>> Looping<M> {
+impl<M: NetHost> Looping<M> {
     /// The loop with that number, which serves these plans. `Io` where the system offers it no sockets to wait for.
     pub(crate) fn new(common: &Common<M>, worker: u32, plans: Plans) -> Result<Looping<M>, Fault> {
         let poll = Poll::new(&common.rt)?;
         let waker = Waker::new(poll.registry(), WAKER)?;
-        let (side, mail) = LoopSide::new(common.alloc, waker, common.counts()?)?;
+        let names = common.names.as_ref();
+        let counts = names.map(|names| LoopCounts::new(common.alloc, names));
+        let (side, mail) = LoopSide::new(common.alloc, waker, counts.transpose()?)?;
         let side = Arc::new(common.alloc, side)?;
-        let network = common.network(worker, poll, &side)?;
-        let comings = room_for_mail(common.alloc)?;
+        let network = MioNetwork::new(common, worker, poll, &side)?;
+        let mut comings = Comings::new(common.alloc);
+        // room for the mail of a turn
+        comings.streams.reserve(MOST_MAIL)?;
+        comings.found.reserve(MOST_MAIL)?;
         let main = Arc::try_clone(&common.main)?;
         Ok(Looping {
             rt: common.rt,
@@ -126,30 +102,17 @@ impl<M: Host + Net<Listener = TcpListener, Stream = TcpStream>> Looping<M> {
         })
     }
 
-    /// What it shares with other threads.
-    pub(crate) fn side(&self) -> &Arc<LoopSide> {
-        &self.side
-    }
-
     /// Serves clients until main deals no more and all have gone, until a drain cuts them, or until it can't wait for
     /// them any more. Those that are left are closed. Answers whether it did not give up.
     pub(crate) fn run(self) -> bool {
         let mut looping = self;
         let are_gone = looping.serve();
-        let Looping {
-            event_loop,
-            comings,
-            mail,
-            side,
-            main,
-            ..
-        } = looping;
-        side.end();
-        drop(mail);
-        drop(comings);
-        drop(event_loop);
+        looping.side.end();
+        drop(looping.mail);
+        drop(looping.comings);
+        drop(looping.event_loop);
         // it can fail only for a counter of the system's that is no more
-        let _ = main.wake();
+        let _ = looping.main.wake();
         are_gone
     }
 
@@ -168,7 +131,7 @@ impl<M: Host + Net<Listener = TcpListener, Stream = TcpStream>> Looping<M> {
             }
             // what was handed in before main closed it is there by then
             let is_closed = self.side.is_closed();
-            let closes_idle = self.side.closes_idle();
+            let closes_idle = self.side.closes_idle.load(Ordering::SeqCst);
             self.take_mail();
             self.event_loop.turn(&mut self.network, &mut self.comings);
             if closes_idle {
@@ -176,7 +139,7 @@ impl<M: Host + Net<Listener = TcpListener, Stream = TcpStream>> Looping<M> {
             }
             self.side.tell(&rt, self.event_loop.standing());
             let are_gone = is_closed && self.mail.is_empty() && self.event_loop.is_empty();
-            if are_gone || self.side.is_cut() {
+            if are_gone || self.side.is_cut.load(Ordering::SeqCst) {
                 return true;
             }
         }
@@ -186,7 +149,7 @@ impl<M: Host + Net<Listener = TcpListener, Stream = TcpStream>> Looping<M> {
     /// Closes connections to which nothing is owed, of which nothing is unread; and ends the calls that are left, once,
     /// if they are to end.
     fn close_idle(&mut self) {
-        if self.side.ends_calls() && !self.has_ended_calls {
+        if self.is_to_end_calls() {
             self.has_ended_calls = true;
             self.event_loop.drain();
         }
@@ -199,11 +162,15 @@ impl<M: Host + Net<Listener = TcpListener, Stream = TcpStream>> Looping<M> {
         }
     }
 
+    fn is_to_end_calls(&self) -> bool {
+        self.side.ends_calls.load(Ordering::SeqCst) && !self.has_ended_calls
+    }
+
     /// The moment at which a turn is due though the loop is not woken.
     fn next_turn(&self) -> Option<u64> {
         // a wake-up may have come while it was looked at what came meanwhile
-        let is_to_end = self.side.ends_calls() && !self.has_ended_calls;
-        if self.mail.is_empty() && !is_to_end && !self.side.is_cut() {
+        let is_cut = self.side.is_cut.load(Ordering::SeqCst);
+        if self.mail.is_empty() && !self.is_to_end_calls() && !is_cut {
             self.event_loop.next_turn()
         } else {
             Some(0)
@@ -226,10 +193,152 @@ impl<M: Host + Net<Listener = TcpListener, Stream = TcpStream>> Looping<M> {
     }
 }
 
-/// Nothing that came, with room for the mail of a turn.
-fn room_for_mail(alloc: Global) -> Result<Comings<PlainHook, Told<Socket>>, AllocError> {
-    let mut comings = Comings::new(alloc);
-    comings.streams.reserve(MOST_MAIL)?;
-    comings.found.reserve(MOST_MAIL)?;
-    Ok(comings)
+/// The token of a loop's waker.
+pub(crate) const WAKER: Token = Token(usize::MAX);
+
+/// So many sockets are told to be ready at a time; the next wait tells of the others.
+const MOST_EVENTS: usize = 256;
+
+/// The sockets of a loop, by `mio`, and what else it needs of the system.
+#[derive(Drop)]
+pub(crate) struct MioNetwork<M> {
+    rt: M,
+    alloc: Global,
+    poll: Poll,
+    events: Events,
+    clock: SinceStart,
+    side: Arc<LoopSide>,
+    names: Sender<Name>,
+    log: Option<LoopLog>,
+    told: Log<u64, ()>,
+}
+
+impl<M> Model for MioNetwork<M> {
+    ghost use Rattle.std.specs.Prelude.{ℕ, List};
+    ghost use Rattle.connect_gateway.specs.Moments.{moments_told};
+
+    ghost Value = { List ℕ };
+
+    ghost view = { λ n. moments_told n.told.items };
+}
+
+impl<M: Host> MioNetwork<M> {
+    /// The sockets of the loop with that number, which are waited for by that poll.
+    pub(crate) fn new(
+        common: &Common<M>,
+        worker: u32,
+        poll: Poll,
+        side: &Arc<LoopSide>,
+    ) -> Result<MioNetwork<M>, AllocError> {
+        let side = Arc::try_clone(side)?;
+        let names = common.looked_up.clone()?;
+        let lines = common.lines.as_ref();
+        let log = lines.map(|lines| lines.of_loop(common.alloc, worker));
+        Ok(MioNetwork {
+            rt: common.rt,
+            alloc: common.alloc,
+            clock: common.clock,
+            side,
+            names,
+            log: log.transpose()?,
+            events: Events::with_capacity(common.alloc, MOST_EVENTS)?,
+            poll,
+            told: Log::new(),
+        })
+    }
+
+    /// Waits, up to that moment if there is one or until the loop is woken, and tells what is ready. It does not wait,
+    /// where nothing of that can be told.
+    pub(crate) fn wait(&mut self, until: Option<u64>, ready: &mut Vec<Ready>) -> io::Result<()> {
+        ready.clear();
+        // the system tells each of them once
+        ready.reserve(MOST_EVENTS)?;
+        let timeout = until.map(|until| self.time_to(until));
+        self.poll.poll(&mut self.events, timeout)?;
+        for event in &self.events {
+            if event.token() != WAKER {
+                // there is room
+                let _ = ready.push(ready_of(event));
+            }
+        }
+        Ok(())
+    }
+
+    fn time_to(&mut self, moment: u64) -> Duration {
+        let now = self.clock.now(&self.rt);
+        Duration::from_millis(moment.saturating_sub(now))
+    }
+}
+
+impl<M: NetHost> Network<Told<Socket>> for MioNetwork<M> {
+    ghost told = { λ n. n };
+
+    fn moment(&mut self) -> u64 {
+        let moment = self.clock.now(&self.rt);
+        self.told = self.told.and(&moment, &());
+        moment
+    }
+
+    fn connect(&mut self, address: SocketAddr, length: usize) -> Told<Socket> {
+        Told::new(Socket::to_backend(&self.rt, address, length))
+    }
+
+    fn watch(&mut self, wire: &Told<Socket>, token: usize, writes: bool) -> bool {
+        let Some(descriptor) = wire.stream().descriptor() else {
+            return false;
+        };
+        let interests = if writes {
+            Interest::READABLE | Interest::WRITABLE
+        } else {
+            Interest::READABLE
+        };
+        // so it takes no `&mut` of a stream that notes its reads and writes
+        let mut source = SourceFd(&descriptor);
+        self.poll
+            .registry()
+            .register(&mut source, Token(token), interests)
+            .is_ok()
+    }
+
+    fn look_up(&mut self, name: &str) -> bool {
+        let name = Name::new(self.alloc, name, &self.side);
+        name.is_ok_and(|name| self.names.send(&self.rt, name).is_ok())
+    }
+
+    fn tell_reply(&mut self, id: CallId, entry: &ReplyEntry) {
+        let moment = self.clock.now(&self.rt);
+        if let Some(counts) = &self.side.counts {
+            counts.count(moment, entry);
+        }
+        if let Some(log) = &mut self.log {
+            log.tell_reply(&self.rt, moment, id, entry);
+        }
+    }
+
+    fn tell_unserved(&mut self) {
+        self.side.unserved.fetch_add(1, Ordering::SeqCst);
+        if let Some(log) = &self.log {
+            log.tell_unserved(&self.rt);
+        }
+    }
+
+    fn tell_branch(&mut self, end: &BranchEnd) {
+        if let Some(counts) = &self.side.counts {
+            let job = end.job();
+            counts.count_branch(job.plan_path(), job.branch(), end.cause, end.took);
+        }
+        if let Some(log) = &mut self.log {
+            log.tell_branch(&self.rt, end);
+        }
+    }
+}
+
+/// What the system tells of a socket. One that failed is read and written, which shows how.
+fn ready_of(event: &Event) -> Ready {
+    Ready {
+        token: event.token().0,
+        readable: event.is_readable() || event.is_error() || event.is_read_closed(),
+        writable: event.is_writable() || event.is_error(),
+        read_closed: event.is_read_closed() || event.is_error(),
+    }
 }

@@ -4,16 +4,12 @@
 #![tactic(auto)]
 
 mod admin_door;
-mod clock;
-mod crew;
 mod dealer;
 mod host;
 mod log_writer;
 mod loop_log;
 mod loop_side;
 mod looping;
-mod mio_network;
-mod resolver;
 mod serve;
 mod socket;
 mod start_log;

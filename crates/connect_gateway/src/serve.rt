@@ -1,30 +1,27 @@
-ghost use Rattle.std.specs.Prelude.{⊤};
-
 use crate::admin_door::AdminDoor;
-use crate::clock::SinceStart;
-use crate::crew::Crew;
 use crate::dealer::Dealer;
-use crate::host::Host;
+use crate::host::{Host, NetHost, SinceStart};
 use crate::log_writer::LogWriter;
 use crate::loop_log::LogLines;
+use crate::loop_side::resolver;
 use crate::looping::{Common, Looping};
-use crate::resolver::resolver;
 use crate::start_log::StartLog;
 use admin::{Drain, ServedNames};
 use call_plan::Plans;
 use command_line::{Admin, Log, Service};
+use crossbeam_channel::{Receiver, unbounded};
 use input_files::PlanFile;
 use libc::types::rlimit;
 use libc::{RLIMIT_NOFILE, getrlimit};
 use mio::net;
 use script_replay::Fault;
-use std::alloc::Global;
+use std::alloc::{AllocError, Global};
 use std::fs::{File, Files};
 use std::io::{self, ErrorKind};
-use std::marker::Model;
-use std::net::{Net, TcpListener, TcpStream, ToSocketAddrs};
+use std::net::{Net, ToSocketAddrs};
 use std::sync::Arc;
-use std::time::Instant;
+use std::thread::{self, JoinHandle};
+use std::time::{Duration, Instant};
 
 /// A second, in milliseconds.
 const SECOND: u64 = 1_000;
@@ -36,13 +33,17 @@ const DESCRIPTORS: u64 = 1_160;
 /// So many more are enough for the program.
 const FURTHER_DESCRIPTORS: u64 = 40;
 
+/// So long the program's end waits for the lines of the log that are left, in milliseconds.
+const LAST_LINES: u64 = 1_000;
+
 /// Serves the plans of a file to whoever connects, until so many streams were accepted, if that was asked for, and all
 /// of them have ended, or until it is drained. `Plans` for a plan file that is refused; `Io` where it can't be read, at
 /// an address that can't be listened at, where sockets can't be waited for, and after a failed accept; `Memory` where
 /// the loops or their threads can't be made.
-pub(crate) fn serve<
-    M: Host + Net<Listener = TcpListener, Stream = TcpStream> + AllocGlobal + Files,
->(rt: M, service: &Service) -> Result<(), Fault> {
+pub(crate) fn serve<M: NetHost + AllocGlobal + Files>(
+    rt: M,
+    service: &Service,
+) -> Result<(), Fault> {
     // if the program was started without standard streams, no socket takes their numbers: lines of the log stay out of
     // it
     let _input = hold(&rt);
@@ -51,11 +52,7 @@ pub(crate) fn serve<
     serve_file(rt, rt.alloc(), service)
 }
 
-fn serve_file<M: Host + Net<Listener = TcpListener, Stream = TcpStream> + Files>(
-    rt: M,
-    alloc: Global,
-    service: &Service,
-) -> Result<(), Fault> {
+fn serve_file<M: NetHost + Files>(rt: M, alloc: Global, service: &Service) -> Result<(), Fault> {
     let log = StartLog::new(rt, alloc, service.log != Log::Off);
     let file = read_plan_file(&rt, alloc, &log, service.plans.as_str())?;
     let plans = ServedPlans::of(alloc, &file, service.workers)?;
@@ -64,7 +61,7 @@ fn serve_file<M: Host + Net<Listener = TcpListener, Stream = TcpStream> + Files>
     serve_plans(rt, alloc, &log, service, plans)
 }
 
-fn serve_plans<M: Host + Net<Listener = TcpListener, Stream = TcpStream>>(
+fn serve_plans<M: NetHost>(
     rt: M,
     alloc: Global,
     log: &StartLog<M>,
@@ -81,7 +78,7 @@ fn serve_plans<M: Host + Net<Listener = TcpListener, Stream = TcpStream>>(
         looked_up: resolver(rt, alloc, plans.looks_up)?,
         lines: (service.log != Log::Off).then_some(lines),
         names: service.admin.is_some().then_some(plans.names),
-        main: Arc::try_clone(dealer.waker())?,
+        main: Arc::try_clone(&dealer.waker)?,
     };
     log.listens(service, plans.count);
     let most = service.connections.unwrap_or(u64::MAX);
@@ -99,13 +96,6 @@ struct ServedPlans {
     looks_up: bool,
 }
 
-// Clauses see nothing of it, which keeps proofs small.
-impl Model for ServedPlans {
-    ghost Value = { ⊤ };
-
-    ghost view = { λ _. tt };
-}
-
 impl ServedPlans {
     fn of(alloc: Global, file: &PlanFile, workers: u32) -> Result<ServedPlans, Fault> {
         let looks_up = file.has_names(alloc)?;
@@ -114,8 +104,12 @@ impl ServedPlans {
         let plans = file.plans(alloc)?;
         let names = ServedNames::of(alloc, paths, &plans)?;
         let names = Arc::new(alloc, names)?;
+        let mut of_workers = Vec::new(alloc);
+        for _worker in 0..workers {
+            of_workers.push(file.plans(alloc)?)?;
+        }
         Ok(ServedPlans {
-            of_workers: copies(alloc, file, workers)?,
+            of_workers,
             names,
             count,
             looks_up,
@@ -123,18 +117,9 @@ impl ServedPlans {
     }
 }
 
-/// The plans of a file, so many times.
-fn copies(alloc: Global, file: &PlanFile, count: u32) -> Result<Vec<Plans>, Fault> {
-    let mut plans = Vec::new(alloc);
-    for _copy in 0..count {
-        plans.push(file.plans(alloc)?)?;
-    }
-    Ok(plans)
-}
-
 /// Who accepts the streams of clients, whose address is listened at first, and attends to operators, if there is an
 /// address for them.
-fn dealer<M: Host + Net<Listener = TcpListener, Stream = TcpStream>>(
+fn dealer<M: NetHost>(
     rt: M,
     alloc: Global,
     log: &StartLog<M>,
@@ -144,43 +129,29 @@ fn dealer<M: Host + Net<Listener = TcpListener, Stream = TcpStream>>(
     lines: &LogLines,
 ) -> Result<Dealer<M>, Fault> {
     let listener = listen(&rt, log, service.listen.as_str())?;
-    let door = match &service.admin {
-        Some(admin) => Some(open_door(&rt, log, alloc, admin, names, lines)?),
-        None => None,
-    };
-    let told = match service.log {
-        Log::Off => None,
-        _ => Some(lines.try_clone()?),
-    };
-    Dealer::new(rt, alloc, clock, listener, door, told)
+    let admin = service.admin.as_ref();
+    let door = admin.map(|admin| open_door(&rt, log, alloc, admin, names, lines));
+    let door = door.transpose()?;
+    let told = (service.log != Log::Off).then(|| lines.try_clone());
+    Dealer::new(rt, alloc, clock, listener, door, told.transpose()?)
 }
 
 /// Warns where fewer descriptors are allowed than so many workers may need (docs/OPERATING.md).
 fn warn_of_descriptors<M: Host>(alloc: Global, log: &StartLog<M>, workers: u32) {
-    let Some(allowed) = most_descriptors() else {
-        return;
+    let mut limit = rlimit {
+        rlim_cur: 0,
+        rlim_max: 0,
     };
+    let is_told = getrlimit(RLIMIT_NOFILE, &mut limit) == 0;
+    let allowed = limit.rlim_cur;
     let needed = u64::from(workers) * DESCRIPTORS + FURTHER_DESCRIPTORS;
-    if allowed < needed {
+    if is_told && allowed < needed {
         let text = format!(in alloc;
             "{allowed} are allowed, and {needed} are always enough: ulimit -n, or LimitNOFILE in a unit"
         );
         if let Ok(text) = text {
             log.warn("descriptors", text.as_str());
         }
-    }
-}
-
-/// How many descriptors the program may have, if the system tells.
-fn most_descriptors() -> Option<u64> {
-    let mut limit = rlimit {
-        rlim_cur: 0,
-        rlim_max: 0,
-    };
-    if getrlimit(RLIMIT_NOFILE, &mut limit) == 0 {
-        Some(limit.rlim_cur)
-    } else {
-        None
     }
 }
 
@@ -196,10 +167,7 @@ fn read_plan_file<M: Host + Files>(
     log: &StartLog<M>,
     path: &str,
 ) -> Result<PlanFile, Fault> {
-    let mut opened = match File::open(rt, path) {
-        Ok(opened) => opened,
-        Err(error) => return Err(log.failed(path, error)),
-    };
+    let mut opened = File::open(rt, path).map_err(|error| log.failed(path, error))?;
     match PlanFile::read(alloc, &mut opened) {
         Ok(file) => {
             log.report(path, &file);
@@ -217,10 +185,7 @@ fn listen<M: Host + Net>(
     log: &StartLog<M>,
     address: &str,
 ) -> Result<net::TcpListener, Fault> {
-    match listen_at(rt, address) {
-        Ok(listener) => Ok(listener),
-        Err(error) => Err(log.failed(address, error)),
-    }
+    listen_at(rt, address).map_err(|error| log.failed(address, error))
 }
 
 fn listen_at<R: Net>(rt: &R, address: &str) -> io::Result<net::TcpListener> {
@@ -254,7 +219,7 @@ fn open_door<M: Host + Net>(
 }
 
 /// Serves so many streams by a loop for each of these plans, and ends all threads that it started.
-fn serve_with<M: Host + Net<Listener = TcpListener, Stream = TcpStream>>(
+fn serve_with<M: NetHost>(
     common: Common<M>,
     dealer: Dealer<M>,
     plans: Vec<Plans>,
@@ -265,7 +230,10 @@ fn serve_with<M: Host + Net<Listener = TcpListener, Stream = TcpStream>>(
     let mut dealer = dealer;
     let mut writer = writer;
     let loopings = loopings(&common, plans)?;
-    add_sides(&mut dealer, &mut writer, &loopings)?;
+    for looping in &loopings {
+        dealer.sides.push(Arc::try_clone(&looping.side)?)?;
+        writer.add(&looping.side)?;
+    }
     let rt = common.rt;
     let alloc = common.alloc;
     // the log ends with the last loop
@@ -273,21 +241,8 @@ fn serve_with<M: Host + Net<Listener = TcpListener, Stream = TcpStream>>(
     serve_by(rt, alloc, dealer, loopings, most, has_log.then_some(writer))
 }
 
-/// Tells main and the log of what these loops share.
-fn add_sides<M: Host + Net<Listener = TcpListener, Stream = TcpStream>>(
-    dealer: &mut Dealer<M>,
-    writer: &mut LogWriter,
-    loopings: &[Looping<M>],
-) -> Result<(), Fault> {
-    for looping in loopings {
-        dealer.add(looping.side())?;
-        writer.add(looping.side())?;
-    }
-    Ok(())
-}
-
 /// Serves so many streams by these loops, and ends all threads that it started.
-fn serve_by<M: Host + Net<Listener = TcpListener, Stream = TcpStream>>(
+fn serve_by<M: NetHost>(
     rt: M,
     alloc: Global,
     dealer: Dealer<M>,
@@ -296,7 +251,10 @@ fn serve_by<M: Host + Net<Listener = TcpListener, Stream = TcpStream>>(
     writer: Option<LogWriter>,
 ) -> Result<(), Fault> {
     let mut dealer = dealer;
-    let mut crew = Crew::new(alloc);
+    let mut crew = Crew {
+        loops: Vec::new(alloc),
+        written: None,
+    };
     let served = match crew.start(rt, alloc, loopings, writer) {
         Ok(()) => dealer.deal_streams(most),
         Err(_) => Err(Fault::Memory),
@@ -314,13 +272,57 @@ fn serve_by<M: Host + Net<Listener = TcpListener, Stream = TcpStream>>(
 }
 
 /// A loop for each of these plans.
-fn loopings<M: Host + Net<Listener = TcpListener, Stream = TcpStream>>(
-    common: &Common<M>,
-    plans: Vec<Plans>,
-) -> Result<Vec<Looping<M>>, Fault> {
+fn loopings<M: NetHost>(common: &Common<M>, plans: Vec<Plans>) -> Result<Vec<Looping<M>>, Fault> {
     let mut loopings = Vec::new(common.alloc);
     for (worker, plans) in (0..u32::MAX).zip(plans) {
         loopings.push(Looping::new(common, worker, plans)?)?;
     }
     Ok(loopings)
+}
+
+/// The threads beside main, but for those that look up names: they are left to the program's end.
+#[derive(Drop)]
+struct Crew {
+    // each answers whether all clients of its loop have gone
+    loops: Vec<JoinHandle<bool>>,
+    // the other end of this goes once all lines of the log are written
+    written: Option<Receiver<()>>,
+}
+
+impl Crew {
+    /// Starts a thread that writes the log, if there is one, and one for each loop. Those that started are in the crew, also where it
+    /// fails.
+    fn start<M: NetHost>(
+        &mut self,
+        rt: M,
+        alloc: Global,
+        loopings: Vec<Looping<M>>,
+        writer: Option<LogWriter>,
+    ) -> Result<(), AllocError> {
+        if let Some(writer) = writer {
+            let (done, written) = unbounded(alloc)?;
+            drop(thread::spawn(&rt, move || writer.run(&rt, done))?);
+            self.written = Some(written);
+        }
+        self.loops.reserve(loopings.len())?;
+        for looping in loopings {
+            let thread = thread::spawn(&rt, move || looping.run())?;
+            self.loops.push(thread)?;
+        }
+        Ok(())
+    }
+
+    /// Waits until all loops have ended, to which nobody deals any more, and then for a second at most until the log is written.
+    /// Answers whether the clients of one loop at least have all gone.
+    fn end<M: Host>(self, rt: &M) -> bool {
+        let Crew { loops, written } = self;
+        let mut are_gone = false;
+        for thread in loops {
+            are_gone |= thread.join(rt);
+        }
+        if let Some(written) = written {
+            let _ended = written.recv_timeout(rt, Duration::from_millis(LAST_LINES));
+        }
+        are_gone
+    }
 }

@@ -42,12 +42,14 @@ impl Socket {
         }
     }
 
+    /// Its stream, or why there is none.
+    fn stream(&self) -> io::Result<&TcpStream> {
+        self.stream.as_ref().map_err(|kind| io::Error::from(*kind))
+    }
+
     /// Its descriptor, if it has one.
     pub(crate) fn descriptor(&self) -> Option<RawFd> {
-        match &self.stream {
-            Ok(stream) => Some(stream.as_raw_fd()),
-            Err(_) => None,
-        }
+        Some(self.stream().ok()?.as_raw_fd())
     }
 }
 
@@ -62,31 +64,21 @@ fn connect<R: Net>(rt: &R, address: SocketAddr, length: usize) -> io::Result<Tcp
 
 /// The kind of a failed connection. `QuotaExceeded` where the program or the system has no descriptor left.
 fn kind_of(error: &io::Error) -> ErrorKind {
-    let Some(number) = error.raw_os_error() else {
-        return error.kind();
-    };
-    if number == EMFILE || number == ENFILE {
-        ErrorKind::QuotaExceeded
-    } else {
-        error.kind()
+    match error.raw_os_error() {
+        Some(EMFILE | ENFILE) => ErrorKind::QuotaExceeded,
+        _ => error.kind(),
     }
 }
 
 impl Read for Socket {
     fn read(&mut self, buf: &mut [u8]) -> io::Result<usize> {
-        match &mut self.stream {
-            Ok(stream) => stream.read(buf),
-            Err(kind) => Err(io::Error::from(*kind)),
-        }
+        (&mut self.stream()?).read(buf)
     }
 }
 
 impl Write for Socket {
     fn write(&mut self, buf: &[u8]) -> io::Result<usize> {
-        match &mut self.stream {
-            Ok(stream) => stream.write(buf),
-            Err(kind) => Err(io::Error::from(*kind)),
-        }
+        (&mut self.stream()?).write(buf)
     }
 
     fn flush(&mut self) -> io::Result<()> {
@@ -99,10 +91,7 @@ impl Stream for Socket {
         if let Some(seat) = &self.seat {
             seat.leave();
         }
-        match &self.stream {
-            Ok(stream) => stream.shutdown(Shutdown::Write),
-            Err(kind) => Err(io::Error::from(*kind)),
-        }
+        self.stream()?.shutdown(Shutdown::Write)
     }
 }
 

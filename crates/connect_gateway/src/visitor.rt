@@ -52,7 +52,7 @@ impl Visitor {
         Visitor {
             stream,
             reader: Reader::new(alloc),
-            outbox: Outbox::new(alloc),
+            outbox: Outbox::of(Bytes::new(alloc)),
             has_asked: false,
             has_ended: false,
             is_shut: false,

@@ -1,4 +1,1 @@
-pub mod Names
-mod TellLemmas
-mod PumpLemmas
-mod WriteLemmas
+pub mod Lemmas

@@ -1,11 +1,16 @@
--- What reading a stream into an inlet makes of both.
-use Rattle.std.specs.Prelude.{◌≡◌, ◌≢◌, ℕ, ◌+◌, ◌<◌, ◌≤◌, All, List, [], ◌++◌, ◌∷◌, length, map, flat_map, Option}
+-- What an object tells of its calls, and what reading a stream into an inlet makes of both.
+use Rattle.std.specs.Prelude.{◌≡◌, ◌≢◌, ℕ, ◌+◌, ◌<◌, ◌≤◌, All, List, [], ◌++◌, ◌∷◌, length, map, flat_map, Option, None, Some, ⊤}
 use Rattle.std.specs.Io.KnownBytes.{Consumes}
-use Rattle.connections.specs.declared.inlet.Fed.{Fed}
-use Rattle.connections.specs.declared.inlet.Fed.TheVariants.{Go, Stop, Full}
-use Rattle.connections.specs.declared.inlet.Heard.{Heard}
-use Rattle.connections.specs.declared.inlet.Heard.TheVariants.{Piece, HangUp}
-use Rattle.connections.specs.Told.{Tells}
+use Rattle.connections.specs.declared.pumping.Fed.{Fed}
+use Rattle.connections.specs.declared.pumping.Fed.TheVariants.{Go, Stop, Full}
+use Rattle.connections.specs.declared.pumping.Heard.{Heard}
+use Rattle.connections.specs.declared.pumping.Heard.TheVariants.{Piece, HangUp}
+
+-- what was told stays, and these are told behind it
+abbrev pub Tells : {A : Type 0} → Option (List A) → Option (List A) → List A → Type 0
+Tells None new news = ⊤
+Tells (Some xs) None news = ⊥
+Tells (Some xs) (Some ys) news = ys ≡ xs ++ news
 
 -- the bytes of a piece that are taken
 abbrev pub taken_of : List ℕ → Fed → List ℕ

@@ -6,9 +6,9 @@ use Rattle.gateway_model.specs.declared.id.CallId.{CallId}
 use Rattle.gateway_model.specs.Past.{call_id}
 use Rattle.gateway_model.specs.Queue.{answer_of}
 use Rattle.gateway_theory.specs.Replies.{ReplyValue}
-use Rattle.connections.specs.declared.queue.Handed.{Handed}
-use Rattle.connections.specs.declared.queue.Handed.TheVariants.{Reply, Over, Closing}
-use Rattle.connections.specs.Told.{Tells}
+use Rattle.connections.specs.declared.writing.Handed.{Handed}
+use Rattle.connections.specs.declared.writing.Handed.TheVariants.{Reply, Over, Closing}
+use Rattle.connections.specs.Pumps.{Tells}
 
 -- what a queue tells that gave this reply, or is over
 abbrev pub told_by : Option ReplyValue → List Handed

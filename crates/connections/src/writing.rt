@@ -1,13 +1,36 @@
-ghost use Rattle.std.specs.Prelude.{◌≡◌, ◌≢◌, ◌+◌, ◌≤◌, [], ◌∷◌, ◌++◌, length, take, List, map, false, true, None, Some, IfSome, MatchOption};
+ghost use Rattle.std.specs.Prelude.{◌≡◌, ◌+◌, ◌≤◌, [], ◌∷◌, ◌++◌, length, take, List, map, false, true, Option, None, MatchOption};
 ghost use Rattle.std.specs.Io.KnownBytes.{Appends};
 ghost use Rattle.gateway_theory.specs.Replies.{ReplyValue};
-ghost use Rattle.connections.specs.Writes.{End, Writes, WritesToItsEnd, goes_on, calls_of};
+ghost use Rattle.connections.specs.Pumps.{Tells};
+ghost use Rattle.connections.specs.Writes.{End, Writes, WritesToItsEnd, goes_on, calls_of, told_by};
+ghost use Rattle.connections.specs.declared.writing.Handed.{Handed};
 
-use crate::queue::ReplyQueue;
 use gateway_core::{CallId, ConnId, Reply};
 use std::alloc::Global;
 use std::io::Write;
 use std::sync::Wait;
+
+/// What a reply queue was asked for: it gave the reply to a request, or was over; or it was told that its side closes.
+#[derive(Clone, Copy, PartialEq, Eq, Debug)]
+pub enum Handed {
+    Reply(CallId),
+    Over,
+    Closing,
+}
+
+/// Where the replies of a connection come from. It may tell what it gave.
+pub trait ReplyQueue {
+    // for proofs: what it was asked for so far, in order; None where it keeps no list
+    ghost told: { Self → Option (List Handed) } = { λ _. None };
+
+    /// Waits for the connection's next reply and gives it. None where no more can come.
+    fn next<R: Wait>(&mut self, rt: &R) -> Option<Reply>
+        ensures { Tells (told self.old) (told self.new) (told_by result) };
+
+    /// Is told that the connection's writing has ended.
+    fn close<R: Wait>(&mut self, rt: &R)
+        ensures { Tells (told self.old) (told self.new) (Handed.Closing ∷ []) };
+}
 
 /// Writes the replies that the queue gives, to requests 0, 1, .. of the connection, and gives back those that were
 /// written, the last perhaps in part. It ends where the queue is over, where it gives a reply to another request, and at

@@ -15,8 +15,8 @@ use Rattle.loop_model.specs.Clients.{ClientValue, IsExplainedClient}
 use Rattle.loop_model.specs.Explained.{LoopValue, at, count_of, one_below}
 use Rattle.loop_model.specs.Growing.{Continues}
 use Rattle.loop_model.specs.Handed.{HandsIn, IsResultOf, has_drained, latest, moments, results}
-use Rattle.gateway_loop.specs.declared.phase.Phase.{Phase}
-use Rattle.gateway_loop.specs.declared.phase.Phase.TheVariants as phase
+use Rattle.gateway_loop.specs.declared.client.Phase.{Phase}
+use Rattle.gateway_loop.specs.declared.client.Phase.TheVariants as phase
 
 -- its connection was closed
 abbrev pub lingers_in : Phase → Bool

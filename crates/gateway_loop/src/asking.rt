@@ -1,4 +1,4 @@
-ghost use Rattle.std.specs.Prelude.{◌≡◌, [], Some, IfOk, IfSome, option_and_then};
+ghost use Rattle.std.specs.Prelude.{◌≡◌, [], Some, IfOk, IfSome, MatchOption, option_and_then};
 ghost use Rattle.std.specs.Option.{option_map_or};
 ghost use Rattle.branch_causes.specs.Causes.{cause_of_end, status_of_end};
 ghost use Rattle.branch_causes.specs.declared.cause.Cause.TheVariants.{NotWanted};
@@ -10,7 +10,7 @@ ghost use Rattle.loop_model.specs.Whole.{AsksOn};
 use crate::addresses::Addresses;
 use crate::attempt::{Attempt, Step};
 use crate::backend::Backend;
-use crate::edges::Edges;
+use crate::hints::Edges;
 use crate::network::Network;
 use branch_causes::{Cause, status_of_end};
 use branch_exchange::{ExchangeEnd, Loss, outcome_of};
@@ -172,22 +172,17 @@ impl<W: Wire> Asking<W> {
         }
     }
 
-    /// It is over: it is lost by this, whatever was read.
-    pub(crate) fn lose(&mut self, loss: Loss)
+    /// It is over: it is lost by this, whatever was read; None for want of memory.
+    pub(crate) fn lose(&mut self, loss: Option<Loss>)
         ensures job { self.new.job ≡ self.old.job }
         ensures on { AsksOn (asked_for self.old) (asked_for self.new) }
-        ensures ended { self.new.end ≡ Some (ExchangeEnd.Lost loss) }
+        ensures ended { MatchOption loss (self.new.end ≡ Some ExchangeEnd.NoMemory)
+            (λ loss. self.new.end ≡ Some (ExchangeEnd.Lost loss)) }
     {
-        set_end(&mut self.end, ExchangeEnd::Lost(loss));
-    }
-
-    /// It is over: there is no memory for it.
-    pub(crate) fn starve(&mut self)
-        ensures job { self.new.job ≡ self.old.job }
-        ensures on { AsksOn (asked_for self.old) (asked_for self.new) }
-        ensures ended { self.new.end ≡ Some ExchangeEnd.NoMemory }
-    {
-        set_end(&mut self.end, ExchangeEnd::NoMemory);
+        match loss {
+            Some(loss) => set_end(&mut self.end, ExchangeEnd::Lost(loss)),
+            None => set_end(&mut self.end, ExchangeEnd::NoMemory),
+        }
     }
 
     /// The outcome that is to be recorded; None for want of memory. One that has not ended is lost.

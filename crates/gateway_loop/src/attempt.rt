@@ -1,10 +1,9 @@
 ghost use Rattle.std.specs.Prelude.{◌≡◌, ℕ, List, [], None, Some, IfSome, IsTrue, IsFalse, false};
 ghost use Rattle.loop_model.specs.Asking.{IsUntouched};
 ghost use Rattle.gateway_loop.specs.Asking.{Asks, HadStream, HasGrown, IsUnsent, IsUntouchedAttempt, Steps, attempt_value};
-ghost use Rattle.branch_exchange.specs.Exchange.{exchange_value};
 
 use crate::backend::Backend;
-use crate::edges::Edges;
+use crate::hints::Edges;
 use crate::limits::MOST_STEPS;
 use branch_exchange::{Exchange, ExchangeEnd, Loss};
 use http_pieces::Bytes;

@@ -2,15 +2,17 @@ ghost use Rattle.std.specs.Prelude.{◌≡◌, false, [], ℕ, List};
 ghost use Rattle.loop_model.specs.Clients.{client_value};
 ghost use Rattle.loop_model.specs.Growing.{Grows};
 ghost use Rattle.gateway_loop.specs.Clients.{FitsOn, MakesSteps, lingering};
+ghost use Rattle.gateway_model.specs.declared.event.Event.TheVariants.{HangUp, Piece};
+ghost use Rattle.gateway_theory.specs.Told.{TakesEvent};
 
-use crate::edges::Edges;
+use crate::hints::Edges;
 use crate::limits::MOST_WRITES;
 use crate::network::Network;
-use crate::phase::Phase;
-use crate::taking::{hang_up, take_in};
 use gateway_core::{CallId, ConnId, Core, ReplyEntry, ReplyHook};
+use http_pieces::Bytes;
 use std::alloc::Global;
 use std::marker::Model;
+use whole_pieces::deliver;
 use wires::{Got, Outbox, PIECE, Sent, Wire};
 
 /// A client: its stream, and its connection.
@@ -35,7 +37,7 @@ impl<W: Wire> Model for Client<W> {
     ghost use Rattle.std.specs.Prelude.{◌≡◌, false};
     ghost use Rattle.loop_model.specs.Clients.{ClientValue, client_value};
     ghost use Rattle.gateway_loop.specs.Clients.{lingers_in};
-    ghost use Rattle.gateway_loop.specs.declared.phase.Phase.TheVariants.{Reads};
+    ghost use Rattle.gateway_loop.specs.declared.client.Phase.TheVariants.{Reads};
 
     ghost Value = { ClientValue };
 
@@ -43,6 +45,17 @@ impl<W: Wire> Model for Client<W> {
 
     // one that is read has not ended
     ghost invariant = { λ c. c.phase ≡ Reads → W.ended c.wire ≡ false };
+}
+
+/// What is done with a client's stream.
+#[derive(Clone, Copy, PartialEq, Eq, Debug)]
+pub(crate) enum Phase {
+    /// It is read, and replies are written.
+    Reads,
+    /// It brings nothing more, and replies are written.
+    Deaf,
+    /// Its connection is closed. What comes is dropped, so that the last reply is not lost with it.
+    Lingers,
 }
 
 /// What reading a client's stream came to.
@@ -81,7 +94,7 @@ impl<W: Wire> Client<W> {
             wire,
             conn,
             phase: Phase::Reads,
-            outbox: Outbox::new(alloc),
+            outbox: Outbox::of(Bytes::new(alloc)),
             writing: None,
         }
     }
@@ -124,6 +137,11 @@ impl<W: Wire> Client<W> {
     /// Whether it is owed nothing, and brings nothing more.
     pub(crate) fn is_to_leave<H: ReplyHook + Drop>(&self, core: &Core<H>) -> bool {
         self.outbox.is_empty() && core.untaken(self.conn) == 0 && core.ended(self.conn)
+    }
+
+    /// Whether each of its requests has its reply, and that was taken.
+    pub(crate) fn is_owed_nothing<H: ReplyHook + Drop>(&self, core: &Core<H>) -> bool {
+        core.is_idle(self.conn) && core.untaken(self.conn) == 0
     }
 
     /// Whether nothing waits to be written.
@@ -294,4 +312,23 @@ fn tell<W: Wire, N: Network<W>>(net: &mut N, writing: &mut Option<Writing>)
     if let Some(Writing { id, entry }) = writing.take() {
         net.tell_reply(id, &entry);
     }
+}
+
+/// Hands on a piece of the connection's stream that came.
+fn take_in<H: ReplyHook + Drop>(core: &mut Core<H>, conn: ConnId, piece: &[u8]) -> Heard
+    ensures stands { TakesEvent (Piece conn piece.now) core.old core.new }
+    ensures plans { core.new.plans ≡ core.old.plans }
+{
+    match deliver(core, conn, piece) {
+        Ok(()) => Heard::Piece,
+        Err(_) => Heard::Broke,
+    }
+}
+
+/// Tells that the peer of the connection has hung up.
+fn hang_up<H: ReplyHook + Drop>(core: &mut Core<H>, conn: ConnId)
+    ensures stands { TakesEvent (HangUp conn) core.old core.new }
+    ensures plans { core.new.plans ≡ core.old.plans }
+{
+    let _ = core.hang_up(conn);
 }

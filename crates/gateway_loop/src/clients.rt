@@ -1,24 +1,22 @@
-ghost use Rattle.std.specs.Prelude.{◌≡◌, ◌++◌, ◌∷◌, [], ℕ, List, IfOk, length, option_map, option_to_list, count_by};
+ghost use Rattle.std.specs.Prelude.{◌≡◌, ◌++◌, ◌∷◌, [], ℕ, List, IfOk, option_map, option_to_list, count_by};
 ghost use Rattle.gateway_loop.specs.Clients.{HandsNothing, Onward, Starts, Tells};
 ghost use Rattle.gateway_model.specs.History.{no_history};
-ghost use Rattle.gateway_theory.specs.Gateway.{jobs_of};
 ghost use Rattle.gateway_theory.specs.Served.{Served};
 ghost use Rattle.loop_model.specs.Explained.{IsExplained, draining};
 ghost use Rattle.loop_model.specs.Growing.{HasTicked};
 ghost use Rattle.slab.specs.Slab.{entries};
 ghost use Rattle.loop_model.specs.Standing.{count_clients, count_lingering};
 
-use crate::client::{Client, Heard, Written};
+use crate::client::{Client, Heard, Phase, Written};
 use crate::comings::Dealt;
-use crate::edges::Edges;
+use crate::hints::Edges;
 use crate::laws::loop_laws;
 use crate::limits::MOST_CLIENTS;
 use crate::moments::is_due;
 use crate::network::Network;
-use crate::phase::Phase;
 use call_plan::Plans;
 use connect_codec::Outcome;
-use gateway_core::{CallId, ConnId, Core, Job, ReplyHook, Tally};
+use gateway_core::{ConnId, Core, Job, ReplyHook};
 use http_server::Log;
 use slab::Slab;
 use std::alloc::{AllocError, Global};
@@ -258,14 +256,9 @@ impl<H: ReplyHook + Drop, W: Wire + Drop> Clients<H, W> {
         self.moment
     }
 
-    /// The stream of the client in that place.
-    pub(crate) fn wire(&self, place: usize) -> Option<&W> {
-        Some(self.clients.get(place)?.wire())
-    }
-
-    /// The connection of the client in that place.
-    pub(crate) fn conn(&self, place: usize) -> Option<ConnId> {
-        Some(self.clients.get(place)?.conn())
+    /// The client in that place.
+    pub(crate) fn get(&self, place: usize) -> Option<&Client<W>> {
+        self.clients.get(place)
     }
 
     /// What is done with the stream of the client in that place.
@@ -275,42 +268,26 @@ impl<H: ReplyHook + Drop, W: Wire + Drop> Clients<H, W> {
 
     /// Whether the client in that place is to be read, where its stream may have bytes.
     pub(crate) fn is_to_be_read(&self, place: usize) -> bool {
-        match self.clients.get(place) {
-            Some(client) => client.is_to_be_read(&self.core),
-            None => false,
-        }
+        let client = self.clients.get(place);
+        client.is_some_and(|client| client.is_to_be_read(&self.core))
     }
 
     /// Whether the client in that place is owed nothing, and brings nothing more.
     pub(crate) fn is_to_leave(&self, place: usize) -> bool {
-        match self.clients.get(place) {
-            Some(client) => client.is_to_leave(&self.core),
-            None => false,
-        }
+        let client = self.clients.get(place);
+        client.is_some_and(|client| client.is_to_leave(&self.core))
     }
 
     /// Whether each request of the client in that place has its reply, and that was taken.
     pub(crate) fn is_owed_nothing(&self, place: usize) -> bool {
-        match self.clients.get(place) {
-            Some(client) => {
-                let conn = client.conn();
-                self.core.is_idle(conn) && self.core.untaken(conn) == 0
-            }
-            None => false,
-        }
+        let client = self.clients.get(place);
+        client.is_some_and(|client| client.is_owed_nothing(&self.core))
     }
 
     /// Whether nothing is owed to the client in that place: each of its requests has its reply, and that was written.
     pub(crate) fn is_idle(&self, place: usize) -> bool {
-        self.is_owed_nothing(place) && self.has_written_all(place)
-    }
-
-    /// Whether nothing waits to be written to the client in that place.
-    fn has_written_all(&self, place: usize) -> bool {
-        match self.clients.get(place) {
-            Some(client) => client.has_written_all(),
-            None => false,
-        }
+        let client = self.clients.get(place);
+        client.is_some_and(|client| client.is_owed_nothing(&self.core) && client.has_written_all())
     }
 
     /// Whether a reply is there for the connection, or it no longer brings requests or replies.
@@ -318,28 +295,11 @@ impl<H: ReplyHook + Drop, W: Wire + Drop> Clients<H, W> {
         self.core.untaken(conn) > 0 || self.core.ended(conn)
     }
 
-    /// Whether the answer to a job of this call is wanted.
-    pub(crate) fn is_wanted(&self, call: &CallId) -> bool {
-        self.core.is_wanted(call)
-    }
-
-    /// The least deadline of the undecided calls, and of their branches that are out.
-    pub(crate) fn next_deadline(&self) -> Option<u64> {
-        self.core.next_deadline()
-    }
-
-    /// How many jobs wait to be taken.
-    pub(crate) fn waiting_jobs(&self) -> usize
-        ensures { result ≡ length (jobs_of self.now.core) }
+    /// The core.
+    pub(crate) fn core(&self) -> &Core<H>
+        ensures { result.now ≡ self.now.core }
     {
-        self.core.waiting_jobs()
-    }
-
-    /// How the results that came were seen.
-    pub(crate) fn tally(&self) -> Tally
-        ensures { result ≡ self.now.core.tally }
-    {
-        self.core.tally()
+        &self.core
     }
 }
 

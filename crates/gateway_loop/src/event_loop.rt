@@ -8,20 +8,33 @@ ghost use Rattle.gateway_loop.specs.Loop.{StartsLoop};
 
 use crate::clients::Clients;
 use crate::ends::Ends;
-use crate::errand::Errand;
 use crate::exchanges::Exchanges;
-use crate::hints::Hints;
+use crate::hints::{Errand, Hints};
 use crate::limits::{MOST_CLIENTS, MOST_EXCHANGES, MOST_TIMERS};
 use crate::names::Names;
-use crate::standing::LoopStanding;
 use call_plan::Plans;
-use gateway_core::{ConnId, ReplyHook};
+use gateway_core::{ConnId, ReplyHook, Tally};
 use slab::Slab;
 use std::alloc::{AllocError, Global};
 use std::collections::VecDeque;
 use std::marker::Model;
 use timer_heap::Timers;
 use wires::Wire;
+
+/// How a loop stands.
+#[derive(Clone, Copy, PartialEq, Eq, Debug)]
+pub struct LoopStanding {
+    /// Connections that are open.
+    pub open: usize,
+    /// Connections that are closed and linger.
+    pub lingering: usize,
+    /// Exchanges with backends that are under way.
+    pub asking: usize,
+    /// Jobs that wait for a place.
+    pub waiting: usize,
+    /// How the results were seen.
+    pub tally: Tally,
+}
 
 /// A gateway's core with its clients' streams and the exchanges with its backends.
 #[derive(Drop)]
@@ -82,7 +95,8 @@ impl<H: ReplyHook + Drop, W: Wire + Drop> EventLoop<H, W> {
         if self.again {
             return Some(0);
         }
-        sooner(self.clients().next_deadline(), self.untils.next())
+        let deadline = self.clients().core().next_deadline();
+        deadline.into_iter().chain(self.untils.next()).min()
     }
 
     /// How the loop stands.
@@ -97,8 +111,8 @@ impl<H: ReplyHook + Drop, W: Wire + Drop> EventLoop<H, W> {
             open: self.clients().len().saturating_sub(lingering),
             lingering,
             asking: self.exchanges.len(),
-            waiting: self.clients().waiting_jobs(),
-            tally: self.clients().tally(),
+            waiting: self.clients().core().waiting_jobs(),
+            tally: self.clients().core().tally(),
         }
     }
 
@@ -121,22 +135,5 @@ impl<H: ReplyHook + Drop, W: Wire + Drop> EventLoop<H, W> {
         ensures { result.now ≡ self.now.side }
     {
         self.exchanges.clients()
-    }
-
-    /// The place of the client of that connection, if it is open.
-    pub(crate) fn place_of(&self, conn: ConnId) -> Option<usize> {
-        self.open
-            .iter()
-            .find(|open| open.0 == conn)
-            .map(|open| open.1)
-    }
-}
-
-/// The sooner of two moments, of which either may be absent.
-pub(crate) fn sooner(one: Option<u64>, other: Option<u64>) -> Option<u64> {
-    match (one, other) {
-        (Some(one), Some(other)) => Some(one.min(other)),
-        (Some(moment), None) | (None, Some(moment)) => Some(moment),
-        (None, None) => None,
     }
 }

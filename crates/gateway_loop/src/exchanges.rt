@@ -1,5 +1,4 @@
 ghost use Rattle.std.specs.Prelude.{◌≡◌, [], IfOk};
-ghost use Rattle.gateway_loop.specs.Clients.{Starts};
 ghost use Rattle.gateway_loop.specs.Loop.{Goes, StartsLoop, TellsLoop};
 ghost use Rattle.gateway_model.specs.History.{no_history};
 ghost use Rattle.gateway_theory.specs.Served.{Served};
@@ -7,11 +6,11 @@ ghost use Rattle.loop_model.specs.Growing.{HasTicked};
 ghost use Rattle.loop_model.specs.Whole.{IsExplainedLoop, draining_loop};
 
 use crate::asking::{Asking, Progress};
-use crate::branch_end::BranchEnd;
 use crate::client::{Heard, Written};
 use crate::clients::Clients;
 use crate::comings::Dealt;
-use crate::edges::Edges;
+use crate::ends::BranchEnd;
+use crate::hints::Edges;
 use crate::limits::MOST_EXCHANGES;
 use crate::network::Network;
 use branch_exchange::Loss;
@@ -226,8 +225,8 @@ impl<H: ReplyHook + Drop, W: Wire + Drop> Exchanges<H, W> {
         let _place = self.asking.insert_reserved(asking);
     }
 
-    /// The exchange in that place is over: it is lost by this, whatever was read.
-    pub(crate) fn lose(&mut self, place: usize, loss: Loss)
+    /// The exchange in that place is over: it is lost by this, whatever was read; None for want of memory.
+    pub(crate) fn lose(&mut self, place: usize, loss: Option<Loss>)
         ensures goes { Goes self.old self.new }
         ensures told { self.new.side.told ≡ self.old.side.told }
     {
@@ -235,19 +234,6 @@ impl<H: ReplyHook + Drop, W: Wire + Drop> Exchanges<H, W> {
             return;
         };
         asking.lose(loss);
-        asking.begun_law();
-        let _place = self.asking.insert_reserved(asking);
-    }
-
-    /// The exchange in that place is over: there is no memory for it.
-    pub(crate) fn starve(&mut self, place: usize)
-        ensures goes { Goes self.old self.new }
-        ensures told { self.new.side.told ≡ self.old.side.told }
-    {
-        let Some(mut asking) = self.asking.try_remove(place) else {
-            return;
-        };
-        asking.starve();
         asking.begun_law();
         let _place = self.asking.insert_reserved(asking);
     }

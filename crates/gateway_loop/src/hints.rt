@@ -1,13 +1,47 @@
-use crate::edges::Edges;
-use std::alloc::{AllocError, Global};
-use std::mem;
+use crate::comings::Ready;
+use std::alloc::Global;
+use wires::PIECE;
+
+/// What may be done at a stream without waiting, so far as is known. An edge sets it, and what has to wait clears it.
+#[derive(Clone, Copy, PartialEq, Eq, Debug)]
+pub(crate) struct Edges {
+    pub(crate) may_read: bool,
+    pub(crate) may_write: bool,
+    /// Its peer has ended its side: the end has no edge of its own.
+    read_closed: bool,
+}
+
+impl Edges {
+    /// Of a new stream: it may be written, and is not known to have bytes.
+    pub(crate) fn new() -> Edges {
+        Edges {
+            may_read: false,
+            may_write: true,
+            read_closed: false,
+        }
+    }
+
+    /// Something became possible.
+    pub(crate) fn note(&mut self, ready: Ready) {
+        self.may_read |= ready.readable || ready.read_closed;
+        self.may_write |= ready.writable;
+        self.read_closed |= ready.read_closed;
+    }
+
+    /// A read brought so many bytes. One that left room has found all that was there.
+    pub(crate) fn has_read(&mut self, count: usize) {
+        if count < PIECE && !self.read_closed {
+            self.may_read = false;
+        }
+    }
+}
 
 /// What else is known of the client in a place. No law speaks of it.
 #[derive(Drop)]
 pub(crate) struct Hints {
     pub(crate) edges: Edges,
-    // the places of the exchanges for its calls
-    exchanges: Vec<usize>,
+    // the places of the exchanges for its calls, in no order
+    pub(crate) exchanges: Vec<usize>,
     // whether it is in the line of those that are to be served
     pub(crate) is_in_line: bool,
     // whether it is among those that may have news
@@ -28,26 +62,40 @@ impl Hints {
         }
     }
 
-    /// An exchange for a call of it is in that place.
-    pub(crate) fn add_exchange(&mut self, place: usize) -> Result<(), AllocError> {
-        self.exchanges.push(place)?;
-        Ok(())
-    }
-
     /// The exchange in that place is over.
     pub(crate) fn forget_exchange(&mut self, place: usize) {
         if let Some(index) = self.exchanges.iter().position(|other| *other == place) {
             self.exchanges.swap_remove(index);
         }
     }
+}
 
-    /// The place of its exchange of that number, in no order.
-    pub(crate) fn exchange(&self, number: usize) -> Option<usize> {
-        self.exchanges.get(number).copied()
-    }
+/// What else is known of the exchange in a place. No law speaks of it.
+#[derive(Drop)]
+pub(crate) struct Errand {
+    // the place of its client
+    pub(crate) client: usize,
+    // the moment at which it began
+    pub(crate) began: u64,
+    pub(crate) edges: Edges,
+    // whether its time limit is that of its address
+    pub(crate) is_timed: bool,
+    // its number among those that wait for its name
+    pub(crate) waits: Option<usize>,
+    // whether it is in the line of those that are to be served
+    pub(crate) is_in_line: bool,
+}
 
-    /// The places of its exchanges. It has none then.
-    pub(crate) fn take_exchanges(&mut self, alloc: Global) -> Vec<usize> {
-        mem::replace(&mut self.exchanges, Vec::new(alloc))
+impl Errand {
+    /// Of an exchange for the client in that place, which begins at that moment.
+    pub(crate) fn new(client: usize, began: u64) -> Errand {
+        Errand {
+            client,
+            began,
+            edges: Edges::new(),
+            is_timed: false,
+            waits: None,
+            is_in_line: false,
+        }
     }
 }

@@ -3,40 +3,27 @@
 #![tactic(auto)]
 
 mod addresses;
-mod admission;
 mod asking;
 mod attempt;
 mod backend;
-mod branch_end;
 mod client;
 mod clients;
 mod comings;
-mod connecting;
-mod edges;
-mod ending;
 mod ends;
-mod errand;
+mod errands;
 mod event_loop;
 mod exchanges;
 mod hints;
 mod laws;
-mod leaving;
 mod limits;
-mod looking_up;
 mod moments;
 mod names;
 mod network;
-mod phase;
 mod serving;
-mod standing;
-mod starting;
-mod taking;
 mod tokens;
-mod turn;
 
-pub use branch_end::BranchEnd;
 pub use comings::{Comings, Dealt, LookedUp, Ready};
-pub use event_loop::EventLoop;
+pub use ends::BranchEnd;
+pub use event_loop::{EventLoop, LoopStanding};
 pub use limits::{MOST_ADDRESSES, MOST_EXCHANGES, MOST_LINGERING};
 pub use network::Network;
-pub use standing::LoopStanding;

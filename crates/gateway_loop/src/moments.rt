@@ -1,15 +1,72 @@
-ghost use Rattle.std.specs.Prelude.{◌≡◌};
 ghost use Rattle.gateway_loop.specs.Loop.{Goes, TellsLoop};
 ghost use Rattle.loop_model.specs.Growing.{HasTicked};
 ghost use Rattle.loop_model.specs.Whole.{ContinuesLoop, draining_loop};
+ghost use Rattle.std.specs.Prelude.{◌≡◌};
 
+use crate::comings::Comings;
 use crate::event_loop::EventLoop;
+use crate::limits::{MOST_EXCHANGES, MOST_STARTS};
 use crate::network::Network;
 use gateway_core::ReplyHook;
 use wires::Wire;
 
 #[tactic(auto, using(crate::proofs::AskLemmas::going))]
 impl<H: ReplyHook + Drop, W: Wire + Drop> EventLoop<H, W> {
+    /// One turn: takes what the last wait brought, and does what can be done without waiting. `next_turn` tells when another is due.
+    pub fn turn<N: Network<W>>(&mut self, net: &mut N, comings: &mut Comings<H, W>)
+        ensures continues { ContinuesLoop self.old self.new }
+        ensures told { TellsLoop (N.told net.old) (N.told net.new) self.old self.new }
+        ensures ticks { HasTicked self.old.side self.new.side }
+    {
+        self.tick(net);
+        self.take_comings(net, comings);
+        self.serve_line(net);
+        self.expire(net);
+        self.settle(net);
+    }
+
+    /// Takes what the last wait brought.
+    fn take_comings<N: Network<W>>(&mut self, net: &mut N, comings: &mut Comings<H, W>)
+        ensures goes { Goes self.old self.new }
+        ensures told { TellsLoop (N.told net.old) (N.told net.new) self.old self.new }
+    {
+        self.admit_all(net, &mut comings.streams);
+        self.take_found(net, &mut comings.found);
+        for ready in comings.ready.iter() {
+            self.note_ready(*ready);
+        }
+        comings.ready.clear();
+    }
+
+    /// Begins to ask for the jobs that came, and writes the replies that are there, until neither brings anything more.
+    fn settle<N: Network<W>>(&mut self, net: &mut N)
+        ensures goes { Goes self.old self.new }
+        ensures told { TellsLoop (N.told net.old) (N.told net.new) self.old self.new }
+    {
+        let mut left = MOST_STARTS;
+        for _round in 0..MOST_STARTS {
+            let started = self.start_and_tell(net, left);
+            left = left.saturating_sub(started);
+            let has_written = self.write_noted(net);
+            if started == 0 && !has_written {
+                break;
+            }
+        }
+        let has_jobs = self.clients().core().waiting_jobs() > 0
+            && self.exchanges.len() < MOST_EXCHANGES;
+        self.again = has_jobs || !self.line.is_empty() || !self.noted.is_empty();
+    }
+
+    /// Begins to ask for jobs, at most so many, and tells what came of others: how many it began.
+    fn start_and_tell<N: Network<W>>(&mut self, net: &mut N, most: u32) -> u32
+        ensures goes { Goes self.old self.new }
+        ensures told { TellsLoop (N.told net.old) (N.told net.new) self.old self.new }
+    {
+        let started = self.start_jobs(net, most);
+        self.ends.tell(net);
+        started
+    }
+
     /// Hands in the present moment, unless that would change nothing: so calls that are due end before anything that is seen later.
     pub(crate) fn tick<N: Network<W>>(&mut self, net: &mut N)
         ensures goes { Goes self.old self.new }
@@ -45,7 +102,7 @@ impl<H: ReplyHook + Drop, W: Wire + Drop> EventLoop<H, W> {
         ensures told { self.new.side.told ≡ self.old.side.told }
     {
         // a call that ended behind an undecided one shows by its exchanges' time limits; but a branch that waits for a place has none
-        let has_waiting = self.clients().waiting_jobs() > 0;
+        let has_waiting = self.clients().core().waiting_jobs() > 0;
         for index in 0..self.open.len() {
             let Some(open) = self.open.get(index) else {
                 return;
@@ -64,8 +121,5 @@ impl<H: ReplyHook + Drop, W: Wire + Drop> EventLoop<H, W> {
 
 /// Whether the deadline has come.
 pub(crate) fn is_due(deadline: Option<u64>, moment: u64) -> bool {
-    match deadline {
-        Some(deadline) => deadline <= moment,
-        None => false,
-    }
+    deadline.is_some_and(|deadline| deadline <= moment)
 }

@@ -18,15 +18,6 @@ struct Name {
     places: Slab<usize>,
 }
 
-/// What came of waiting for a name.
-#[derive(Clone, Copy, PartialEq, Eq, Debug)]
-pub(crate) enum Waiting {
-    /// It waits under this number.
-    Under(usize),
-    /// The name can't be looked up.
-    Never,
-}
-
 impl Names {
     pub(crate) fn new(alloc: Global) -> Names {
         Names {
@@ -35,18 +26,19 @@ impl Names {
         }
     }
 
-    /// The exchange in that place waits for the name, which is looked up once for all who wait for it.
+    /// The exchange in that place waits for the name, which is looked up once for all who wait for it: its number among these. None where
+    /// the name can't be looked up.
     pub(crate) fn wait<W: Wire, N: Network<W>>(
         &mut self,
         net: &mut N,
         name: &str,
         place: usize,
-    ) -> Result<Waiting, AllocError>
+    ) -> Result<Option<usize>, AllocError>
         ensures { N.told net.new ≡ N.told net.old }
     {
         if let Some(index) = self.index(name) {
             if let Some(known) = self.names.get_mut(index) {
-                return Ok(Waiting::Under(known.places.insert(place)?));
+                return Ok(Some(known.places.insert(place)?));
             }
         }
         let mut places = Slab::new(self.alloc);
@@ -54,10 +46,10 @@ impl Names {
         let name = String::from_str(self.alloc, name)?;
         self.names.reserve(1)?;
         if !net.look_up(name.as_str()) {
-            return Ok(Waiting::Never);
+            return Ok(None);
         }
         self.names.push(Name { name, places })?;
-        Ok(Waiting::Under(number))
+        Ok(Some(number))
     }
 
     /// Who waits under this number waits no more.

@@ -1,6 +1,6 @@
 ghost use Rattle.std.specs.Prelude.{◌≡◌, ◌∷◌, ◌++◌, ℕ, List, [], false};
 
-use crate::branch_end::BranchEnd;
+use crate::ends::BranchEnd;
 use gateway_core::{CallId, ReplyEntry};
 use std::net::SocketAddr;
 use wires::Wire;

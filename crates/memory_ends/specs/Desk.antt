@@ -2,7 +2,7 @@
 use Rattle.std.specs.Prelude.{ℕ, List}
 use Rattle.gateway_theory.specs.Task.{HandedJob}
 use Rattle.backend_pool.specs.Work.{Told}
-use Rattle.backend_pool.specs.declared.desk_record.DeskRecord.{DeskRecord}
+use Rattle.backend_pool.specs.declared.working.DeskRecord.{DeskRecord}
 
 -- a desk in memory: what it tells, and how many jobs it gave
 pub record DeskValue : Type 0 where

@@ -20,7 +20,7 @@ pub struct MemoryInlet {
 
 impl Model for MemoryInlet {
     ghost use Rattle.std.specs.Prelude.{List};
-    ghost use Rattle.connections.specs.declared.inlet.Heard.{Heard};
+    ghost use Rattle.connections.specs.declared.pumping.Heard.{Heard};
 
     ghost Value = { List Heard };
 

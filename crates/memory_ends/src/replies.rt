@@ -17,7 +17,7 @@ pub struct MemoryReplies {
 
 impl Model for MemoryReplies {
     ghost use Rattle.std.specs.Prelude.{List};
-    ghost use Rattle.connections.specs.declared.queue.Handed.{Handed};
+    ghost use Rattle.connections.specs.declared.writing.Handed.{Handed};
 
     ghost Value = { List Handed };
 

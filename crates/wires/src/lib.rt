@@ -6,12 +6,10 @@
 
 mod got;
 mod outbox;
-mod stream;
 mod told;
 mod wire;
 
 pub use got::{Got, Sent};
 pub use outbox::Outbox;
-pub use stream::Stream;
-pub use told::Told;
+pub use told::{Stream, Told};
 pub use wire::{PIECE, Wire};

@@ -1,7 +1,6 @@
 ghost use Rattle.std.specs.Prelude.{◌≡◌, ◌≤◌, [], length, drop, IsTrue, ◌↔◌};
 
 use http_pieces::Bytes;
-use std::alloc::Global;
 use std::marker::Model;
 
 /// What waits to be written. Contracts see these bytes.
@@ -22,16 +21,6 @@ impl Model for Outbox {
 }
 
 impl Outbox {
-    /// Nothing waits.
-    pub fn new(alloc: Global) -> Outbox
-        ensures { result ≡ [] }
-    {
-        Outbox {
-            bytes: Vec::new(alloc),
-            at: 0,
-        }
-    }
-
     /// All these bytes wait. They are not copied.
     pub fn of(bytes: Bytes) -> Outbox
         ensures { result ≡ bytes }

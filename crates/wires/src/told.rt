@@ -2,10 +2,15 @@ ghost use Rattle.std.specs.Prelude.{◌≡◌, [], false, true, Some};
 
 use crate::got::{Got, Sent};
 use crate::outbox::Outbox;
-use crate::stream::Stream;
 use crate::wire::{PIECE, Wire};
 use http_server::Log;
-use std::io::ErrorKind;
+use std::io::{self, ErrorKind, Read, Write};
+
+/// A stream whose reads and writes do not wait: where they would have to, they fail by `WouldBlock`.
+pub trait Stream: Read + Write {
+    /// Ends the sending side: the peer reads what was written before, and then the end.
+    fn shut_sending(&self) -> io::Result<()>;
+}
 
 /// Any stream as a `Wire`, whether or not it tells its bytes: proofs see those that its reads put into the piece, and those that its
 /// writes said to have taken.

@@ -1,5 +1,4 @@
-use Rattle.backend_pool.proofs.Names.{arith}
-use Rattle.backend_pool.proofs.WorkLemmas.{works_none, works_more, works_end, works_last}
+use Rattle.backend_pool.proofs.Lemmas.{arith, works_none, works_more, works_end, works_last}
 use Rattle.backend_pool.proofs.working.work.Goals as goal
 
 pub loop-init : goal.loop-init

@@ -1,4 +1,4 @@
-use Rattle.backend_pool.proofs.Names.{◌≡◌, ◌+◌, ◌≤◌}
+use Rattle.backend_pool.proofs.Lemmas.{◌≡◌, ◌+◌, ◌≤◌}
 use Rattle.backend_pool.specs.Work.{WorksAt}
 use Rattle.backend_pool.proofs.working.work.Given as goal
 

@@ -1,6 +1,6 @@
-use Rattle.connections.proofs.Names.{[]}
+use Rattle.connections.proofs.Lemmas.{[]}
 use Rattle.connections.specs.Pumps.{Pumps}
-use Rattle.connections.specs.declared.inlet.Fed.TheVariants.{Go}
+use Rattle.connections.specs.declared.pumping.Fed.TheVariants.{Go}
 use Rattle.connections.proofs.pumping.give_pieces.Given as goal
 
 -- what was read so far was given, and answered by `Go`

@@ -1,4 +1,4 @@
-use Rattle.connections.proofs.PumpLemmas.{Counts-of}
+use Rattle.connections.proofs.Lemmas.{Counts-of}
 use Rattle.connections.proofs.sides.read_side.Goals as goal
 
 pub returns-clause-read : goal.returns-clause-read

@@ -1,4 +1,4 @@
-use Rattle.connections.proofs.WriteLemmas.{WritesOut-of}
+use Rattle.connections.proofs.Lemmas.{WritesOut-of}
 use Rattle.connections.proofs.sides.write_side.Goals as goal
 
 pub returns-clause-written : goal.returns-clause-written

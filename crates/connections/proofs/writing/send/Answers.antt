@@ -1,5 +1,4 @@
-use Rattle.connections.proofs.Names.{rules}
-use Rattle.connections.proofs.WriteLemmas.{Appends-more}
+use Rattle.connections.proofs.Lemmas.{rules, Appends-more}
 use Rattle.connections.proofs.writing.send.Goals as goal
 
 pub loop-sent-preserved : goal.loop-sent-preserved

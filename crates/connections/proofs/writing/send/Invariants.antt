@@ -1,4 +1,4 @@
-use Rattle.connections.proofs.Names.{length, take, ◌-◌, ◌≤◌, Appends}
+use Rattle.connections.proofs.Lemmas.{length, take, ◌-◌, ◌≤◌, Appends}
 use Rattle.connections.proofs.writing.send.Given as goal
 
 -- the first bytes are written

@@ -1,5 +1,4 @@
-use Rattle.connections.proofs.Names.{arith, ◌++◌, [], refl, sym, ap, ◌∙◌, append-nil, append_assoc, length-append}
-use Rattle.connections.proofs.WriteLemmas.{Writes-refl, Writes-join, Writes-on}
+use Rattle.connections.proofs.Lemmas.{arith, ◌++◌, [], refl, sym, ap, ◌∙◌, append-nil, append_assoc, length-append, Writes-refl, Writes-join, Writes-on}
 use Rattle.connections.proofs.writing.write_all.Goals as goal
 
 pub loop-init : goal.loop-init
@@ -16,7 +15,7 @@ loop-preserved g c =
         before.0 ++ next.1,
         omega (arith, next.2.1, before.1, length-append before.0 next.1),
         next.3 ∙ ap (λ xs. xs ++ next.1) before.2 ∙ append_assoc _ before.0 next.1,
-        Writes-on _ _ _ _ _ _ _ _ refl next.2.0 all,
+        Writes-on _ _ _ _ _ _ _ next.2.0 all,
       ),
     )
 

@@ -1,4 +1,4 @@
-use Rattle.connections.proofs.Names.{◌≡◌, ◌++◌, List, [], length, Writes, NotYet}
+use Rattle.connections.proofs.Lemmas.{◌≡◌, ◌++◌, List, [], length, Writes, NotYet}
 use Rattle.gateway_theory.specs.Replies.{ReplyValue}
 use Rattle.connections.proofs.writing.write_all.Given as goal
 

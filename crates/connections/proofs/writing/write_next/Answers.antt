@@ -1,6 +1,5 @@
-use Rattle.connections.proofs.Names.{rules, arith, ◌≡◌, ◌<◌, ◌≤◌, ◌++◌, [], ◌∷◌, length, refl, sym, ap, ◌∙◌, false, nat_eq, append-nil, common_steps, take, Appends, IsOver, Unwritten, CutShort, bytes_of}
+use Rattle.connections.proofs.Lemmas.{rules, arith, ◌≡◌, ◌<◌, ◌≤◌, ◌++◌, [], ◌∷◌, length, refl, sym, ap, ◌∙◌, false, nat_eq, append-nil, common_steps, take, Appends, IsOver, Unwritten, CutShort, bytes_of, Writes-over, Writes-none, Writes-part}
 use Rattle.gateway_model.specs.Past.{call_id}
-use Rattle.connections.proofs.WriteLemmas.{Writes-over, Writes-none, Writes-part}
 use Rattle.connections.proofs.writing.write_next.Goals.{then-ne-via-then-ne, then-ne-via-else-ne+then-is_err}
 use Rattle.connections.proofs.writing.write_next.Goals as goal
 

@@ -1,5 +1,4 @@
-use Rattle.connections.proofs.Names.{◌≡◌, ◌++◌, ap, ◌∙◌}
-use Rattle.connections.proofs.WriteLemmas.{Writes-then}
+use Rattle.connections.proofs.Lemmas.{◌≡◌, ◌++◌, ap, ◌∙◌, Writes-then}
 use Rattle.connections.proofs.writing.write_replies.Goals as goal
 
 pub returns-clause-written : goal.returns-clause-written

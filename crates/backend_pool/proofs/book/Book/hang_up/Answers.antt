@@ -1,5 +1,4 @@
-use Rattle.backend_pool.proofs.Names.{[], refl, arith, HangUp, after_event}
-use Rattle.backend_pool.proofs.BookLemmas.{reached, takes_event}
+use Rattle.backend_pool.proofs.Lemmas.{[], refl, arith, HangUp, after_event, reached, takes_event}
 use Rattle.backend_pool.proofs.book.Book.hang_up.Goals as goal
 
 pub invariant_of-self : goal.invariant_of-self

@@ -1,5 +1,4 @@
-use Rattle.backend_pool.proofs.Names.{[], refl, arith}
-use Rattle.backend_pool.proofs.BookLemmas.{reached_opening, takes_opening}
+use Rattle.backend_pool.proofs.Lemmas.{[], refl, arith, reached_opening, takes_opening}
 use Rattle.backend_pool.proofs.book.Book.opening.Goals as goal
 
 pub invariant_of-self : goal.invariant_of-self

@@ -1,5 +1,4 @@
-use Rattle.backend_pool.proofs.Names.{[], ◌∷◌, refl, arith, BranchResult, after_event}
-use Rattle.backend_pool.proofs.BookLemmas.{reached, takes_event}
+use Rattle.backend_pool.proofs.Lemmas.{[], ◌∷◌, refl, arith, BranchResult, after_event, reached, takes_event}
 use Rattle.backend_pool.proofs.book.Book.result.Goals as goal
 
 pub invariant_of-self : goal.invariant_of-self

@@ -1,6 +1,5 @@
-use Rattle.backend_pool.proofs.Names.{[], ◌∷◌, refl, arith, BranchResult, after_event}
+use Rattle.backend_pool.proofs.Lemmas.{[], ◌∷◌, refl, arith, BranchResult, after_event, reached, takes_event}
 use Rattle.connect_codec.specs.declared.answer.Outcome.TheVariants.{Answer}
-use Rattle.backend_pool.proofs.BookLemmas.{reached, takes_event}
 use Rattle.backend_pool.proofs.book.Book.starved.Goals as goal
 
 pub invariant_of-self : goal.invariant_of-self

@@ -1,6 +1,5 @@
-use Rattle.backend_pool.proofs.Names.{[], ◌∷◌, arith, ap, after_jobs}
+use Rattle.backend_pool.proofs.Lemmas.{[], ◌∷◌, arith, ap, after_jobs, hands_jobs, no_result, reached}
 use Rattle.gateway_theory.specs.Values.{GatewayValue}
-use Rattle.backend_pool.proofs.BookLemmas.{hands_jobs, no_result, reached}
 use Rattle.backend_pool.proofs.book.Book.take_job.Goals as goal
 
 pub invariant_of-self-2 : goal.invariant_of-self-2

@@ -1,6 +1,5 @@
-use Rattle.backend_pool.proofs.Names.{arith}
+use Rattle.backend_pool.proofs.Lemmas.{arith, hands_reply, no_result, reached}
 use Rattle.gateway_theory.specs.Served.{after_reply}
-use Rattle.backend_pool.proofs.BookLemmas.{hands_reply, no_result, reached}
 use Rattle.backend_pool.proofs.book.Book.take_reply.Goals as goal
 
 pub invariant_of-self : goal.invariant_of-self

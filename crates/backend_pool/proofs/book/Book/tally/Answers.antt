@@ -1,7 +1,6 @@
-use Rattle.backend_pool.proofs.Names.{◌≡◌, ◌+◌, ◌≤◌, ap, ◌∙◌, subst}
+use Rattle.backend_pool.proofs.Lemmas.{◌≡◌, ◌+◌, ◌≤◌, ap, ◌∙◌, subst, reached_tallied, tally_sums}
 use Rattle.gateway_theory.specs.declared.tally.Tally.{Tally}
 use Rattle.backend_pool.specs.Book.{most_total}
-use Rattle.backend_pool.proofs.BookLemmas.{reached_tallied, tally_sums}
 use Rattle.backend_pool.proofs.book.Book.tally.Goals as goal
 
 pub returns-clause-total : goal.returns-clause-total

@@ -1,7 +1,7 @@
-use Rattle.backend_pool.proofs.Names.{ℕ, List, None}
+use Rattle.backend_pool.proofs.Lemmas.{ℕ, List, None}
 use Rattle.std.specs.Io.KnownBytes.{Appends, Consumes}
 use Rattle.http_pieces.specs.ReplyReader.{HasReadReply}
-use Rattle.backend_pool.proofs.wire.exchange.Given as goal
+use Rattle.backend_pool.proofs.remote.exchange.Given as goal
 
 -- the request was written, and all bytes that were read were taken: they are no whole reply
 abbrev pub invariant-loop-read : goal.invariant-loop-read

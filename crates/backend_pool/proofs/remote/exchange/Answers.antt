@@ -1,7 +1,6 @@
-use Rattle.backend_pool.proofs.Names.{◌++◌, take, sym, ◌∙◌}
+use Rattle.backend_pool.proofs.Lemmas.{◌++◌, take, sym, ◌∙◌, reply_begins}
 use Rattle.std.proofs.KnownBytes.{Consumes-trans}
-use Rattle.backend_pool.proofs.ExchangeLemmas.{reply_begins}
-use Rattle.backend_pool.proofs.wire.exchange.Goals as goal
+use Rattle.backend_pool.proofs.remote.exchange.Goals as goal
 
 pub returns-in-Some-clause-read : goal.returns-in-Some-clause-read
 returns-in-Some-clause-read g c =

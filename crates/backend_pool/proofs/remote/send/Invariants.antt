@@ -1,6 +1,6 @@
-use Rattle.backend_pool.proofs.Names.{◌≡◌, length}
-use Rattle.backend_pool.specs.Exchange.{SendsOn}
-use Rattle.backend_pool.proofs.wire.send.Given as goal
+use Rattle.backend_pool.proofs.Lemmas.{◌≡◌, length}
+use Rattle.backend_pool.specs.Work.{SendsOn}
+use Rattle.backend_pool.proofs.remote.send.Given as goal
 
 -- what was written and what is left is the request
 abbrev pub invariant-loop-writer : goal.invariant-loop-writer

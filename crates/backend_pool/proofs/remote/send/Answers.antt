@@ -1,6 +1,5 @@
-use Rattle.backend_pool.proofs.Names.{refl}
-use Rattle.backend_pool.proofs.ExchangeLemmas.{sends_more, sends_none}
-use Rattle.backend_pool.proofs.wire.send.Goals as goal
+use Rattle.backend_pool.proofs.Lemmas.{refl, sends_more, sends_none}
+use Rattle.backend_pool.proofs.remote.send.Goals as goal
 
 pub loop-writer-init : goal.loop-writer-init
 loop-writer-init g c = (sends_none _ _, refl)
