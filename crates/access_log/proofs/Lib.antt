@@ -1,2 +1,3 @@
+mod LeafLemmas
 mod MembersLemmas
 mod StatusLemmas

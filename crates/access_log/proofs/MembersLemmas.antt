@@ -86,8 +86,3 @@ reads_back ms old new h last sorted text same =
     (ap (json.value max_depth) (same ∙ whole ms old new h last ∙ sym (append-nil _))
     ∙ value-json_tokens j max_depth [] flat)
     ∙ ap (option_map object) (members_read ms no_members h.leaves ∙ ap Some sorted)
-
--- what is said of the members that were written, as said of a document
-pub text_of : (ms : Members) (w : Written) (d : Data) (text : List ℕ) → HasMembers ms w
-    → ((ns : Members) → HasMembers ns w → text ≡ compact_text (object ns)) → object ms ≡ d → text ≡ compact_text d
-text_of ms w d text has said same = said ms has ∙ ap compact_text same

@@ -1,5 +1,6 @@
 pub mod Branch
 pub mod Closed
+pub mod Leaves
 pub mod Line
 pub mod Members
 pub mod Standing

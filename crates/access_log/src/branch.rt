@@ -3,7 +3,7 @@ ghost use Rattle.std.specs.Prelude.{◌≡◌, IfOk, Some, string_bytes};
 ghost use Rattle.serde_json.specs.Read.{read};
 ghost use Rattle.access_log.specs.Branch.{asked_of, branch_document, branch_line, is_told};
 
-use crate::members::{begin, finish, put_number, put_number_or_null, put_text, put_text_or_null};
+use crate::members::{Leaf, object_text};
 use branch_causes::Cause;
 use gateway_model::CallId;
 use std::alloc::{AllocError, Global};
@@ -48,19 +48,22 @@ pub fn branch_line(
     ensures reads_back { IfOk result (λ line.
         read (string_bytes line) ≡ Some (branch_document time worker (asked_of asked.now))) }
 {
-    let mut out = begin(alloc)?;
-    put_text(&mut out, "address", asked.address)?;
-    put_text(&mut out, "branch", asked.branch)?;
-    put_text(&mut out, "cause", asked.cause.name())?;
-    put_number(&mut out, "connection", asked.call.conn.number())?;
-    put_number(&mut out, "ms", asked.took)?;
-    put_text(&mut out, "path", asked.plan)?;
-    put_number(&mut out, "request", asked.call.request)?;
-    put_text_or_null(&mut out, "request_id", asked.request_id)?;
-    put_number_or_null(&mut out, "status", status_of(asked.status))?;
-    put_number(&mut out, "time", time)?;
-    put_number(&mut out, "worker", u64::from(worker))?;
-    finish(alloc, out)
+    object_text(
+        alloc,
+        &[
+            ("address", Leaf::Text(asked.address)),
+            ("branch", Leaf::Text(asked.branch)),
+            ("cause", Leaf::Text(asked.cause.name())),
+            ("connection", Leaf::Number(asked.call.conn.number())),
+            ("ms", Leaf::Number(asked.took)),
+            ("path", Leaf::Text(asked.plan)),
+            ("request", Leaf::Number(asked.call.request)),
+            ("request_id", Leaf::of_text(asked.request_id)),
+            ("status", Leaf::of_number(status_of(asked.status))),
+            ("time", Leaf::Number(time)),
+            ("worker", Leaf::Number(u64::from(worker))),
+        ],
+    )
 }
 
 fn status_of(status: Option<u16>) -> Option<u64>

@@ -3,7 +3,7 @@ ghost use Rattle.std.specs.Prelude.{◌≡◌, IfOk, Some, string_bytes};
 ghost use Rattle.serde_json.specs.Read.{read};
 ghost use Rattle.access_log.specs.Closed.{closed_document, closed_line, unserved_name};
 
-use crate::members::{begin, finish, put_number, put_text};
+use crate::members::{Leaf, object_text};
 use std::alloc::{AllocError, Global};
 
 /// Why a stream was closed without a byte.
@@ -33,8 +33,11 @@ pub fn closed_line(alloc: Global, time: u64, why: Unserved) -> Result<String, Al
     ensures text { IfOk result (λ line. string_bytes line ≡ closed_line time why) }
     ensures reads_back { IfOk result (λ line. read (string_bytes line) ≡ Some (closed_document time why)) }
 {
-    let mut out = begin(alloc)?;
-    put_text(&mut out, "closed", why.name())?;
-    put_number(&mut out, "time", time)?;
-    finish(alloc, out)
+    object_text(
+        alloc,
+        &[
+            ("closed", Leaf::Text(why.name())),
+            ("time", Leaf::Number(time)),
+        ],
+    )
 }

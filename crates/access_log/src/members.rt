@@ -4,6 +4,7 @@ ghost use Rattle.std.specs.Prelude.{◌≡◌, IfOk, OnOk, Some, option_map, str
 ghost use Rattle.serde_json.specs.Data.{Members, no_members, null, number, object, string, unsigned};
 ghost use Rattle.serde_json.specs.Read.{read};
 ghost use Rattle.serde_json.specs.Written.{compact_text};
+ghost use Rattle.access_log.specs.Leaves.{leaf_data, members_of};
 ghost use Rattle.access_log.specs.Line.{number_or_null, text_or_null};
 ghost use Rattle.access_log.specs.Members.{HasMembers, and_member, all_put};
 
@@ -14,8 +15,62 @@ use std::alloc::{AllocError, Global};
 /// A line has rarely more bytes.
 const ROOM: usize = 320;
 
+/// What stands at a key.
+#[derive(Clone, Copy)]
+pub(crate) enum Leaf<'a> {
+    Text(&'a str),
+    Number(u64),
+    Null,
+}
+
+impl<'a> Leaf<'a> {
+    /// A text, if there is one.
+    pub(crate) fn of_text(text: Option<&'a str>) -> Leaf<'a>
+        ensures { leaf_data result ≡ text_or_null (option_map (λ t. t.now) text.entry) }
+    {
+        match text {
+            Some(text) => Leaf::Text(text),
+            None => Leaf::Null,
+        }
+    }
+
+    /// A number, if there is one.
+    pub(crate) fn of_number(n: Option<u64>) -> Leaf<'a>
+        ensures { leaf_data result ≡ number_or_null n }
+    {
+        match n {
+            Some(n) => Leaf::Number(n),
+            None => Leaf::Null,
+        }
+    }
+}
+
+/// The text of the object with these members, whose keys are in byte order.
+pub(crate) fn object_text(alloc: Global, members: &[(&str, Leaf<'_>)]) -> Result<String, AllocError>
+    ensures text { IfOk result (λ line. string_bytes line ≡ compact_text (object (members_of members.now))) }
+    ensures reads_back { IfOk result (λ line. all_put (members_of members.now) no_members ≡ members_of members.now
+        → read (string_bytes line) ≡ Some (object (members_of members.now))) }
+{
+    let mut out = begin(alloc)?;
+    for &(key, leaf) in members {
+        put(&mut out, key, leaf)?;
+    }
+    finish(alloc, out)
+}
+
+fn put(out: &mut Writer, key: &str, leaf: Leaf<'_>) -> Result<(), AllocError>
+    ensures { OnOk result ((ms : Members) → HasMembers ms out.old
+        → HasMembers (and_member ms key.now (leaf_data leaf.entry)) out.new) }
+{
+    match leaf {
+        Leaf::Text(text) => put_text(out, key, text),
+        Leaf::Number(n) => put_number(out, key, n),
+        Leaf::Null => put_null(out, key),
+    }
+}
+
 /// An object of no members yet.
-pub(crate) fn begin(alloc: Global) -> Result<Writer, AllocError>
+fn begin(alloc: Global) -> Result<Writer, AllocError>
     ensures { IfOk result (λ out. HasMembers no_members out) }
 {
     let mut out = Writer::new(Vec::with_capacity(alloc, ROOM)?);
@@ -24,7 +79,7 @@ pub(crate) fn begin(alloc: Global) -> Result<Writer, AllocError>
 }
 
 /// One more member, a text.
-pub(crate) fn put_text(out: &mut Writer, key: &str, text: &str) -> Result<(), AllocError>
+fn put_text(out: &mut Writer, key: &str, text: &str) -> Result<(), AllocError>
     ensures { OnOk result ((ms : Members) → HasMembers ms out.old
         → HasMembers (and_member ms key.now (string text.now)) out.new) }
 {
@@ -33,42 +88,12 @@ pub(crate) fn put_text(out: &mut Writer, key: &str, text: &str) -> Result<(), Al
 }
 
 /// One more member, a number.
-pub(crate) fn put_number(out: &mut Writer, key: &str, n: u64) -> Result<(), AllocError>
+fn put_number(out: &mut Writer, key: &str, n: u64) -> Result<(), AllocError>
     ensures { OnOk result ((ms : Members) → HasMembers ms out.old
         → HasMembers (and_member ms key.now (number (unsigned n))) out.new) }
 {
     out.key(key)?;
     out.u64(n)
-}
-
-/// One more member, a text if there is one.
-pub(crate) fn put_text_or_null(
-    out: &mut Writer,
-    key: &str,
-    text: Option<&str>,
-) -> Result<(), AllocError>
-    ensures { OnOk result ((ms : Members) → HasMembers ms out.old
-        → HasMembers (and_member ms key.now (text_or_null (option_map (λ t. t.now) text.entry))) out.new) }
-{
-    match text {
-        Some(text) => put_text(out, key, text),
-        None => put_null(out, key),
-    }
-}
-
-/// One more member, a number if there is one.
-pub(crate) fn put_number_or_null(
-    out: &mut Writer,
-    key: &str,
-    n: Option<u64>,
-) -> Result<(), AllocError>
-    ensures { OnOk result ((ms : Members) → HasMembers ms out.old
-        → HasMembers (and_member ms key.now (number_or_null n)) out.new) }
-{
-    match n {
-        Some(n) => put_number(out, key, n),
-        None => put_null(out, key),
-    }
 }
 
 fn put_null(out: &mut Writer, key: &str) -> Result<(), AllocError>
@@ -80,7 +105,7 @@ fn put_null(out: &mut Writer, key: &str) -> Result<(), AllocError>
 }
 
 /// The text of the object, whose keys are in byte order.
-pub(crate) fn finish(alloc: Global, out: Writer) -> Result<String, AllocError>
+fn finish(alloc: Global, out: Writer) -> Result<String, AllocError>
     ensures text { IfOk result (λ line. (ms : Members) → HasMembers ms out
         → string_bytes line ≡ compact_text (object ms)) }
     ensures reads_back { IfOk result (λ line. (ms : Members) → HasMembers ms out → all_put ms no_members ≡ ms

@@ -2,7 +2,7 @@ ghost use Rattle.std.specs.Prelude.{◌≡◌, IfOk, Some, string_bytes};
 ghost use Rattle.serde_json.specs.Read.{read};
 ghost use Rattle.access_log.specs.Standing.{standing_document, standing_line};
 
-use crate::members::{begin, finish, put_number};
+use crate::members::{Leaf, object_text};
 use gateway_theory::Tally;
 use std::alloc::{AllocError, Global};
 
@@ -29,15 +29,18 @@ pub fn standing_line(alloc: Global, time: u64, standing: &Standing) -> Result<St
     ensures text { IfOk result (λ line. string_bytes line ≡ standing_line time standing.now) }
     ensures reads_back { IfOk result (λ line. read (string_bytes line) ≡ Some (standing_document time standing.now)) }
 {
-    let mut out = begin(alloc)?;
-    put_number(&mut out, "asking", standing.asking)?;
-    put_number(&mut out, "connections", standing.connections)?;
-    put_number(&mut out, "counted", standing.tally.counted)?;
-    put_number(&mut out, "dropped", standing.dropped)?;
-    put_number(&mut out, "late", standing.tally.late)?;
-    put_number(&mut out, "lingering", standing.lingering)?;
-    put_number(&mut out, "time", time)?;
-    put_number(&mut out, "unknown", standing.tally.unknown)?;
-    put_number(&mut out, "waiting", standing.waiting)?;
-    finish(alloc, out)
+    object_text(
+        alloc,
+        &[
+            ("asking", Leaf::Number(standing.asking)),
+            ("connections", Leaf::Number(standing.connections)),
+            ("counted", Leaf::Number(standing.tally.counted)),
+            ("dropped", Leaf::Number(standing.dropped)),
+            ("late", Leaf::Number(standing.tally.late)),
+            ("lingering", Leaf::Number(standing.lingering)),
+            ("time", Leaf::Number(time)),
+            ("unknown", Leaf::Number(standing.tally.unknown)),
+            ("waiting", Leaf::Number(standing.waiting)),
+        ],
+    )
 }

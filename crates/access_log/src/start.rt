@@ -4,17 +4,17 @@ ghost use Rattle.serde_json.specs.Read.{read};
 ghost use Rattle.access_log.specs.declared.start.Remark.TheVariants.{Fault, Warning};
 ghost use Rattle.access_log.specs.Start.{remark_document, remark_line, start_document, start_line};
 
-use crate::members::{begin, finish, put_number, put_text, put_text_or_null};
+use crate::members::{Leaf, object_text};
 use std::alloc::{AllocError, Global};
 
 /// The line that tells that the gateway listens, at that time in milliseconds from 1970: an object in JSON, with no LF. `listen` and
 /// `admin` are the addresses as they were given.
 #[tactic(auto, unfolding(crate::specs::Start::start_line))]
-pub fn start_line(
+pub fn start_line<'a>(
     alloc: Global,
     time: u64,
-    listen: &str,
-    admin: Option<&str>,
+    listen: &'a str,
+    admin: Option<&'a str>,
     plans: usize,
     workers: u32,
 ) -> Result<String, AllocError>
@@ -22,13 +22,16 @@ pub fn start_line(
     ensures reads_back { IfOk result (λ line.
         read (string_bytes line) ≡ Some (start_document time listen.now (option_map (λ t. t.now) admin.entry) plans workers)) }
 {
-    let mut out = begin(alloc)?;
-    put_text_or_null(&mut out, "admin", admin)?;
-    put_text(&mut out, "listen", listen)?;
-    put_number(&mut out, "plans", plans as u64)?;
-    put_number(&mut out, "time", time)?;
-    put_number(&mut out, "workers", u64::from(workers))?;
-    finish(alloc, out)
+    object_text(
+        alloc,
+        &[
+            ("admin", Leaf::of_text(admin)),
+            ("listen", Leaf::Text(listen)),
+            ("plans", Leaf::Number(plans as u64)),
+            ("time", Leaf::Number(time)),
+            ("workers", Leaf::Number(u64::from(workers))),
+        ],
+    )
 }
 
 /// What a remark is.
@@ -61,10 +64,10 @@ fn fault_line(alloc: Global, time: u64, text: &str) -> Result<String, AllocError
     ensures text { IfOk result (λ line. string_bytes line ≡ remark_line time Fault text.now) }
     ensures reads_back { IfOk result (λ line. read (string_bytes line) ≡ Some (remark_document time Fault text.now)) }
 {
-    let mut out = begin(alloc)?;
-    put_text(&mut out, "fault", text)?;
-    put_number(&mut out, "time", time)?;
-    finish(alloc, out)
+    object_text(
+        alloc,
+        &[("fault", Leaf::Text(text)), ("time", Leaf::Number(time))],
+    )
 }
 
 #[tactic(auto, unfolding(crate::specs::Start::remark_line))]
@@ -72,8 +75,8 @@ fn warning_line(alloc: Global, time: u64, text: &str) -> Result<String, AllocErr
     ensures text { IfOk result (λ line. string_bytes line ≡ remark_line time Warning text.now) }
     ensures reads_back { IfOk result (λ line. read (string_bytes line) ≡ Some (remark_document time Warning text.now)) }
 {
-    let mut out = begin(alloc)?;
-    put_number(&mut out, "time", time)?;
-    put_text(&mut out, "warning", text)?;
-    finish(alloc, out)
+    object_text(
+        alloc,
+        &[("time", Leaf::Number(time)), ("warning", Leaf::Text(text))],
+    )
 }

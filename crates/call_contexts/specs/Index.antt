@@ -7,7 +7,8 @@ use Rattle.std.specs.Prelude.{◌≡◌, ℕ, if◌then◌else◌, List, [], ◌
 use Rattle.context_tree.specs.Context.{Id}
 use Rattle.gateway_model.specs.declared.id.CallId.{CallId}
 use Rattle.gateway_model.specs.Past.{is_call}
-use Rattle.call_contexts.specs.Sound.{Name, NoTwo}
+use Rattle.call_contexts.specs.Sound.{Name, NoTwo, life_at}
+use Rattle.call_contexts.specs.declared.life.Life.{Life}
 
 -- the numbers of a call's connection and of its request
 abbrev pub Key : Type 0
@@ -27,6 +28,14 @@ indexed id entries = lookup (is_at (key_cmp (id.conn, id.request))) entries
 -- this is at the id now, and at each other id what was there
 abbrev pub Sets : CallId → Option Id → List Entry → List Entry → Type 0
 Sets id ctx old new = (other : CallId) → indexed other new ≡ (if is_call id other then ctx else indexed other old)
+
+-- the call of that context, which has this hook and this context for its request id, is taken from the index
+pub record IsTaken (id : Id) (hook : ℕ) (holder : Option Id) (calls : List Life) (old new : List Entry) : Type 0 where
+  pub life : Life
+  pub its : life_at id calls ≡ Some life
+  pub hook_is : life.hook ≡ hook
+  pub holder_is : life.holder ≡ holder
+  pub forgotten : Sets life.id None old new
 
 -- the context of the call of that id
 abbrev pub named_in : CallId → List Name → Option Id

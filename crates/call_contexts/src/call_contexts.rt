@@ -282,12 +282,9 @@ impl<C: Copy, V: Drop, H: Drop> CallContexts<C, V, H> {
         ensures left { self.new ≡ gone ctx self.old }
     {
         self.let_branches_go(ctx);
-        let Some(life) = calls::find(&self.calls, ctx) else {
+        let Some((_, holder)) = calls::take(&mut self.calls, &mut self.index, ctx) else {
             return None;
         };
-        let holder = life.holder;
-        self.index.forget(&life.id);
-        calls::remove(&mut self.calls, ctx);
         self.hooks.fire(ctx);
         let ran = self.hooks.run_next(event);
         release(&mut self.tree, ctx, holder);
@@ -302,14 +299,10 @@ impl<C: Copy, V: Drop, H: Drop> CallContexts<C, V, H> {
         ensures { self.new ≡ gone ctx self.old }
     {
         self.let_branches_go(ctx);
-        let Some(life) = calls::find(&self.calls, ctx) else {
+        order_law::<H>();
+        let Some((hook, holder)) = calls::take(&mut self.calls, &mut self.index, ctx) else {
             return;
         };
-        let holder = life.holder;
-        let hook = life.hook;
-        order_law::<H>();
-        self.index.forget(&life.id);
-        calls::remove(&mut self.calls, ctx);
         self.hooks.stop(hook);
         release(&mut self.tree, ctx, holder);
     }

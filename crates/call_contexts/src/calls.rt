@@ -2,10 +2,11 @@
 ghost use Rattle.std.specs.Prelude.{◌≡◌, ◌<◌, IfNone, IfSome, None as Nothing, filter, length, not, option_map};
 ghost use Rattle.context_tree.specs.Context.{same};
 ghost use Rattle.call_contexts.specs.Sound.{IsPlaced, Rising, life_at, life_for, names_of, numbers_of};
-ghost use Rattle.call_contexts.specs.Index.{IsIndexed};
+ghost use Rattle.call_contexts.specs.Index.{IsIndexed, IsTaken};
 
 use crate::index::Index;
 use crate::life::Life;
+use after_funcs::AfterId;
 use context_tree::CtxId;
 use gateway_model::CallId;
 
@@ -36,14 +37,24 @@ pub(crate) fn place(calls: &[Life], ctx: CtxId) -> Option<usize>
     }
 }
 
-/// Leaves the calls of other contexts.
-pub(crate) fn remove(calls: &mut Vec<Life>, ctx: CtxId)
+/// Takes the call of that context out of the list and the index, if it stands there, and gives its hook and the context that
+/// has its request id.
+pub(crate) fn take(
+    calls: &mut Vec<Life>,
+    index: &mut Index,
+    ctx: CtxId,
+) -> Option<(AfterId, Option<CtxId>)>
     requires { Rising (numbers_of calls.old.items) }
-    ensures { calls.new.items ≡ filter (λ l. not (same l.ctx ctx)) calls.old.items }
+    ensures taken { IfSome result (λ r. IsTaken ctx r.0 r.1 calls.old.items index.old index.new) }
+    ensures left { IfSome result (λ r. calls.new.items ≡ filter (λ l. not (same l.ctx ctx)) calls.old.items) }
+    ensures none { IfNone result (life_at ctx calls.old.items ≡ Nothing) }
+    ensures same_calls { IfNone result (calls.new.items ≡ calls.old.items) }
+    ensures same_index { IfNone result (index.new ≡ index.old) }
 {
-    if let Some(place) = place(calls, ctx) {
-        calls.remove(place);
-    }
+    let place = place(calls, ctx)?;
+    let life = calls.remove(place);
+    index.forget(&life.id);
+    Some((life.hook, life.holder))
 }
 
 /// The call of that id.

@@ -98,15 +98,15 @@ impl LoopLog {
     /// Tells what came of asking the backend of a branch, unless it answered and only failures are told.
     pub(crate) fn tell_branch<R: Clock + Wait>(&mut self, rt: &R, end: &BranchEnd) {
         let request_id = end.request_id();
-        self.keep_id(end.job().call(), request_id);
+        self.keep_id(end.job.call(), request_id);
         if !tells_branch(end.cause, self.to.tells_all) {
             return;
         }
         let asked = BranchAsked {
-            call: end.job().call(),
-            plan: end.job().plan_path(),
-            branch: end.job().branch_name(),
-            address: end.job().address(),
+            call: end.job.call(),
+            plan: end.job.plan_path(),
+            branch: end.job.branch_name(),
+            address: end.job.address(),
             took: end.took,
             cause: end.cause,
             status: end.status,

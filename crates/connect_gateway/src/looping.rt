@@ -324,7 +324,7 @@ impl<M: NetHost> Network<Told<Socket>> for MioNetwork<M> {
 
     fn tell_branch(&mut self, end: &BranchEnd) {
         if let Some(counts) = &self.side.counts {
-            let job = end.job();
+            let job = &end.job;
             counts.count_branch(job.plan_path(), job.branch(), end.cause, end.took);
         }
         if let Some(log) = &mut self.log {

@@ -1,5 +1,8 @@
 -- What comes on a connection's stream: its contexts, and what it makes of the connection.
-use Rattle.gateway_connection.specs.lemmas.Names.{◌≡◌, ℕ, ◌+◌, ◌≤◌, refl, sym, ap, ◌∙◌, List, [], ◌∷◌, ◌++◌, Option, Some, None, Bool, true, false, ⊎_elim, map, length, append-nil, subst, arith, filter, not, range_with_len, option_or, eq-eqb, or_parts, length-append, filter-append, list_any-append, most_requests, CallEvent, ReplyEntry, CallId, ArrivedCall, is_call, ContextsValue, KeepsOthers, LifeValue, begun, by_deadline, by_drain, contexts_value, ending_at, ending_life, ends_of, is_life, is_peer, life_by, others, without, HookedContexts, StocksStay, TakesAtMostOne, stock_in, begins, begun_live, ends_first, first_jobs, first_ones, first_out, KeptValue, gone, TaskValue, HeldConnection, step_to, Step, job_at, task_of, all_stay, or_true, ReplyValue, waiting, call_itself, Holds, entered_held, hears, next_held, asking, Arrives, Begins, Enters, MayFail, IsBegun, MayCome, event_for, first_started, life_in, linked_calls, none_over, IsTied, LeavesOthers, own_calls, Shared, JobsValue, nat_tests}
+use Rattle.gateway_connection.specs.lemmas.Names.{◌≡◌, ℕ, ◌+◌, ◌≤◌, refl, sym, ap, ◌∙◌, List, [], ◌∷◌, ◌++◌, Option, Some, None, Bool, true, false, ⊎_elim, map, length, append-nil, subst, arith, filter, not, range_with_len, option_or, option_map_or, PlanRecord, HttpRequest, eq-eqb, or_parts, length-append, filter-append, list_any-append, most_requests, CallEvent, ReplyEntry, CallId, ArrivedCall, is_call, ContextsValue, KeepsOthers, LifeValue, begun, by_deadline, by_drain, contexts_value, ending_at, ending_life, ends_of, is_life, is_peer, life_by, others, without, HookedContexts, StocksStay, TakesAtMostOne, stock_in, begins, begun_live, ends_first, first_jobs, first_ones, first_out, KeptValue, gone, TaskValue, HeldConnection, step_to, Step, job_at, task_of, all_stay, or_true, ReplyValue, waiting, call_itself, Holds, entered_held, hears, next_held, asking, Arrives, Begins, Enters, MayFail, IsBegun, MayCome, event_for, first_started, life_in, linked_calls, none_over, IsTied, LeavesOthers, own_calls, Shared, JobsValue, nat_tests}
+use Rattle.connect_codec.specs.Verdict.{verdict_of}
+use Rattle.connect_codec.specs.declared.verdict.Verdict.TheVariants.{Ask}
+use Rattle.gateway_model.specs.Arrival.{Asks, Judged, arrival_by, arrival_of, plan_of}
 use Rattle.std.proofs.lemmas.Simd.{map-map}
 use Rattle.gateway_connection.specs.lemmas.OwnContexts.{is_life_own, is_peer_own, keeps_leaves, others_taken}
 use Rattle.gateway_connection.specs.declared.arriving.Arriving.TheVariants.{Answered, Begins as BeginsCall}
@@ -7,6 +10,10 @@ use Rattle.gateway_connection.proofs.HoldsLemmas.{next_new}
 use Rattle.gateway_connection.proofs.LentLemmas.{rest_none}
 use Rattle.gateway_connection.proofs.LinkedLemmas.{calls_append, none_life}
 use Rattle.gateway_connection.proofs.TimedLemmas.{first_is, first_timed, life_on, with_last}
+
+-- a request that asks for a call of the plan that its path names
+pub asks_is : (plans : List PlanRecord) (q : HttpRequest) (plan : PlanRecord) (timeout : Option ℕ) (id : Option (List ℕ)) → plan_of plans q ≡ Some plan → verdict_of q true ≡ Ask timeout id → arrival_of plans q ≡ Asks plan timeout id
+asks_is plans q plan timeout id found asks = ap (λ o. option_map_or (λ p. arrival_by (verdict_of q true) p) o (Judged (verdict_of q false))) found ∙ ap (λ v. arrival_by v plan) asks
 
 -- ---- one on which something may come
 

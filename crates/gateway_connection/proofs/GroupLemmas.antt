@@ -74,11 +74,11 @@ begun_few id a n g tasks k = ap length k.first_are ∙ length-map-range_with_len
 
 pub begun_kept : (moment : ℕ) (id : CallId) (a : ArrivedCall) (n first : ℕ) (out : List Bool) (g : Tasks) (tasks : List TaskValue) (events : List CallEvent) (deadlines : List (Option ℕ)) → n ≡ length a.plan.branches → first ≡ min n a.plan.limit
     → out ≡ map (λ i. nat_lt i first) (range_with_len 0 n) → HasGone id a n g tasks → events ≡ []
-    → deadlines ≡ map (λ (t : TaskValue). deadline_from moment t.asked.plan t.branch) tasks → IsKept id out g (Some (live_value a events deadlines))
+    → deadlines ≡ map (deadline_from moment a.plan) (range_with_len 0 first) → IsKept id out g (Some (live_value a events deadlines))
 begun_kept moment id a n first out g tasks events deadlines n_is first_is out_is k events_are times_are = grind (arith, nat_tests, first_count, length-map-range_with_len, length-map, begun_few, out_at)
 
 pub is_begun : (moment : ℕ) (id : CallId) (a asked : ArrivedCall) (n first : ℕ) (out : List Bool) (g : Tasks) (tasks : List TaskValue) (events : List CallEvent) (deadlines : List (Option ℕ)) → asked ≡ a → n ≡ length a.plan.branches
     → first ≡ min n a.plan.limit → out ≡ map (λ i. nat_lt i first) (range_with_len 0 n) → HasGone id a n g tasks → events ≡ []
-    → deadlines ≡ map (λ (t : TaskValue). deadline_from moment t.asked.plan t.branch) tasks
+    → deadlines ≡ map (deadline_from moment a.plan) (range_with_len 0 first)
     → IsBegun moment id a (kept_value id out g.queue (Some (live_value asked events deadlines))) tasks
 is_begun moment id a asked n first out g tasks events deadlines asked_is n_is first_is out_is k events_are times_are = grind (arith, nat_tests, map-map)

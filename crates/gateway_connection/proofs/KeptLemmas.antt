@@ -1,11 +1,13 @@
 -- A kept call: as many tasks are active as branches are out, and those that wait are the ones that have not started.
-use Rattle.gateway_connection.specs.lemmas.Names.{◌≡◌, ℕ, ◌+◌, ◌≤◌, ◌<◌, ◌-◌, Bool, true, false, List, [], ◌∷◌, ◌++◌, map, length, drop, Option, None, Some, Result, Ok, Err, refl, sym, ap, ◌∙◌, subst, arith, slice_index_or, ◌⊎◌, All, if◌then◌else◌, ◌==◌, slice_set, slice_get, option_map, option_to_list, count_by, list_any, nat_lt, ne_eqb, eqb-true, get_or-set_other, length-set, length-append, lt-ltb, sum_by-cons, sum_by-set, Outcome, CallEvent, CallId, CallRecord, task_of, job_at, TaskValue, KeptValue, ArrivedCall, IsLawful, record_of, deadlines_next, result_on, next_out, rest_of, first_of, LiveValue, live_value, kept_value, started_of, IsGoing, IsKept, IsStep, nat_tests}
+use Rattle.gateway_connection.specs.lemmas.Names.{◌≡◌, ℕ, ◌+◌, ◌≤◌, ◌<◌, ◌-◌, Bool, true, false, List, [], ◌∷◌, ◌++◌, map, length, drop, Option, None, Some, Result, Ok, Err, refl, sym, ap, ◌∙◌, subst, arith, slice_index_or, ◌⊎◌, All, All-nil, if◌then◌else◌, ◌==◌, slice_set, slice_get, option_map, option_to_list, inl, inr, count_by, list_any, nat_lt, ne_eqb, eqb-true, get_or-set_other, length-set, length-append, lt-ltb, sum_by-cons, sum_by-set, Outcome, CallEvent, CallId, CallRecord, task_of, job_at, TaskValue, KeptValue, ArrivedCall, IsLawful, record_of, deadlines_next, result_on, next_out, rest_of, first_of, LiveValue, live_value, kept_value, started_of, IsGoing, IsKept, IsStep, nat_tests}
 use Rattle.std.specs.Prelude.{cond}
 use Rattle.connect_codec.specs.declared.answer.Outcome.TheVariants.{Answer}
 use Rattle.err_group.specs.GroupState.{GroupState, Finishes, freed_by}
 use Rattle.gateway_model.specs.declared.call_event.CallEvent.TheVariants.{Answer as Answered}
 use Rattle.gateway_model.specs.Job.{JobValue}
 use Rattle.gateway_theory.specs.LiveStands.{tasks_from}
+use Rattle.gateway_theory.specs.Step.{ended, kept}
+use Rattle.gateway_theory.specs.Values.{call_state}
 use Rattle.gateway_connection.specs.KeptCall.{live_of}
 use Rattle.gateway_theory.specs.lemmas.StepLemmas.{tasks_none, tasks_next}
 use Rattle.gateway_theory.specs.lemmas.Knowing.{index_in as within}
@@ -149,6 +151,36 @@ answer_going_kept moment id out after i e g h was l later next k was_is it next_
 -- the job of the first of a call's tasks is of that call
 first_its : (moment : ℕ) (id : CallId) (k : ℕ) (a : ArrivedCall) (queue : List TaskValue) → queue ≡ tasks_from k id a → All (λ (j : JobValue). j.call ≡ id) (first_of moment queue)
 first_its moment id k a queue e = grind arith
+
+-- nothing comes of a result of a call that can't be decided any more
+pub late_step : (moment : ℕ) (old : KeptValue) (id : CallId) (out : List Bool) (i : ℕ) (g h : GroupState TaskValue (Unit {0})) (was new : Option LiveValue) (next : Option TaskValue) (outcome : Outcome)
+    → kept_value id out g.queue was ≡ old → IsKept id out g was → was ≡ None → slice_index_or out i false ≡ true → next ≡ (freed_by (Err tt) g).next → new ≡ None
+    → IsStep moment old (kept_value id (slice_set out i false) h.queue new) None next (result_on moment i outcome (slice_set old.call.out i false) old.call.live)
+late_step moment old id out i g h was new next outcome old_is k was_is it next_as new_is =
+    let none : next ≡ None = next_is id out i g was next (Err tt) k it next_as ∙ ap (λ q. slice_get q 0) (subst (λ x. IsKept id out g x) was_is k).live_is in
+    subst (λ o. IsStep moment o (kept_value id (slice_set out i false) h.queue new) None next (result_on moment i outcome (slice_set o.call.out i false) o.call.live)) old_is
+    (subst (λ x. IsStep moment (kept_value id out g.queue was) (kept_value id (slice_set out i false) h.queue x) None next (result_on moment i outcome (slice_set out i false) (option_map (live_of g.queue) was))) (sym new_is)
+    (subst (λ x. IsStep moment (kept_value id out g.queue x) (kept_value id (slice_set out i false) h.queue None) None next (result_on moment i outcome (slice_set out i false) (option_map (live_of g.queue) x))) (sym was_is)
+    (subst (λ x. IsStep moment (kept_value id out g.queue None) (kept_value id (slice_set out i false) h.queue None) None x (kept (call_state (slice_set out i false) None))) (sym none)
+    (record { new_is = refl; reply_is = refl; jobs_are = refl; alone = inl refl; its = All-nil (λ (j : JobValue). j.call ≡ id) }))))
+
+-- an event that decides the call starts no branch
+pub end_step : (moment : ℕ) (old : KeptValue) (id : CallId) (out : List Bool) (i : ℕ) (e : CallEvent) (g cleared h : GroupState TaskValue (Unit {0})) (was new : Option LiveValue) (l : LiveValue)
+    (decided : CallRecord) (next : Option TaskValue) (outcome : Outcome)
+    → kept_value id out g.queue was ≡ old → IsKept id out g was → was ≡ Some l → slice_index_or out i false ≡ true
+    → result_on moment i outcome (slice_set out i false) (Some (live_of g.queue l)) ≡ ended e (live_of g.queue l) (slice_set out i false) → cleared ≡ record g { queue = [] }
+    → decided ≡ record_of l.asked l.deadlines (l.events ++ e ∷ []) → next ≡ (freed_by (Err tt) cleared).next → new ≡ None
+    → IsStep moment old (kept_value id (slice_set out i false) h.queue new) (Some decided) next (result_on moment i outcome (slice_set old.call.out i false) old.call.live)
+end_step moment old id out i e g cleared h was new l decided next outcome old_is k was_is it step_is cleared_is decided_is next_as new_is =
+    let none : next ≡ None = next_is id out i cleared None next (Err tt) (ended_kept id out g cleared was k cleared_is) it next_as ∙ ap (λ (c : GroupState TaskValue (Unit {0})). slice_get c.queue 0) cleared_is in
+    let made = record_of l.asked l.deadlines (l.events ++ e ∷ []) in
+    subst (λ o. IsStep moment o (kept_value id (slice_set out i false) h.queue new) (Some decided) next (result_on moment i outcome (slice_set o.call.out i false) o.call.live)) old_is
+    (subst (λ x. IsStep moment (kept_value id out g.queue was) (kept_value id (slice_set out i false) h.queue x) (Some decided) next (result_on moment i outcome (slice_set out i false) (option_map (live_of g.queue) was))) (sym new_is)
+    (subst (λ x. IsStep moment (kept_value id out g.queue x) (kept_value id (slice_set out i false) h.queue None) (Some decided) next (result_on moment i outcome (slice_set out i false) (option_map (live_of g.queue) x))) (sym was_is)
+    (subst (λ s. IsStep moment (kept_value id out g.queue (Some l)) (kept_value id (slice_set out i false) h.queue None) (Some decided) next s) (sym step_is)
+    (subst (λ x. IsStep moment (kept_value id out g.queue (Some l)) (kept_value id (slice_set out i false) h.queue None) (Some x) next (ended e (live_of g.queue l) (slice_set out i false))) (sym decided_is)
+    (subst (λ x. IsStep moment (kept_value id out g.queue (Some l)) (kept_value id (slice_set out i false) h.queue None) (Some made) x (ended e (live_of g.queue l) (slice_set out i false))) (sym none)
+    (record { new_is = refl; reply_is = refl; jobs_are = refl; alone = inr refl; its = All-nil (λ (j : JobValue). j.call ≡ id) }))))))
 
 pub last_step : (moment : ℕ) (old : KeptValue) (id : CallId) (out : List Bool) (i : ℕ) (body : List ℕ) (g h : GroupState TaskValue (Unit {0})) (was new : Option LiveValue) (l : LiveValue)
     (decided : CallRecord) (next : Option TaskValue) (outcome : Outcome)

@@ -8,6 +8,8 @@ ghost use Rattle.gateway_connection.specs.KeptCall.{HasGone, IsBegun};
 use crate::kept::Kept;
 use crate::live::Live;
 use crate::task::Task;
+use crate::times::deadline_of;
+use call_plan::Plan;
 use err_group::Group;
 use gateway_model::CallId;
 use gateway_replies::ArrivedCall;
@@ -36,12 +38,13 @@ pub fn begin(
     let plan = Arc::try_clone(&asked.plan)?;
     let asked = Arc::new(alloc, asked)?;
     let count = plan.branches().len();
+    let started = count.min(plan.limit() as usize);
     let events = Vec::with_capacity(alloc, count)?;
-    let out = first_out(alloc, count, count.min(plan.limit() as usize))?;
+    let deadlines = first_deadlines(alloc, &plan, started, moment)?;
+    let out = first_out(alloc, count, started)?;
     let mut group = Group::new(alloc);
     let _ = group.set_limit(Some(plan.limit()));
     let first = give(alloc, &id, &asked, &mut group)?;
-    let deadlines = first_deadlines(alloc, &first, moment, count)?;
     let live = Some(Live {
         asked,
         plan,
@@ -103,21 +106,21 @@ fn first_out(alloc: Global, count: usize, first: usize) -> Result<Vec<bool>, All
     Ok(out)
 }
 
-/// The deadlines of the branches that start at this moment, with room for those of so many.
+/// The deadlines of the branches below `first`, which start at this moment, with room for those of all.
 fn first_deadlines(
     alloc: Global,
-    first: &VecDeque<Task>,
+    plan: &Plan,
+    first: usize,
     moment: u64,
-    count: usize,
 ) -> Result<Vec<Option<u64>>, AllocError>
     requires moment { moment ≤ 2 ^ 62 }
-    requires few { length first.now.items ≤ count }
-    ensures items { IfOk result (λ made. made.items ≡ map (λ t. deadline_from moment t.asked.plan t.branch) first.now.items) }
-    ensures room { IfOk result (λ made. count ≤ vec_capacity made) }
+    requires few { first ≤ length plan.now.branches }
+    ensures items { IfOk result (λ made. made.items ≡ map (deadline_from moment plan.now) (range_with_len 0 first)) }
+    ensures room { IfOk result (λ made. length plan.now.branches ≤ vec_capacity made) }
 {
-    let mut deadlines = Vec::with_capacity(alloc, count)?;
-    for index in 0..first.len() {
-        deadlines.push_reserved(first[index].deadline(moment));
+    let mut deadlines = Vec::with_capacity(alloc, plan.branches().len())?;
+    for branch in 0..first {
+        deadlines.push_reserved(deadline_of(plan, branch, moment));
     }
     Ok(deadlines)
 }

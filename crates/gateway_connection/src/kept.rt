@@ -164,16 +164,17 @@ impl Kept {
         let live = self.live.take();
         self.out[branch as usize] = false;
         match (live, outcome) {
-            (None, _) => {
-                self.group.done(Err(()));
-                AfterResult::nothing()
-            }
+            // none waits any more
+            (None, _) => AfterResult {
+                decided: None,
+                next: self.group.done(Err(())).next,
+            },
             (Some(live), Outcome::Fail(error)) => {
                 self.group.clear_queue();
-                self.group.done(Err(()));
+                let next = self.group.done(Err(())).next;
                 AfterResult {
                     decided: Some(live.end(CallEvent::Failed(branch, error))),
-                    next: None,
+                    next,
                 }
             }
             (Some(mut live), Outcome::Answer(body)) => {
@@ -242,17 +243,6 @@ impl Kept {
     {
         self.live = None;
         self.group.clear_queue();
-    }
-}
-
-impl AfterResult {
-    fn nothing() -> AfterResult
-        ensures { result ≡ record { decided = Nothing; next = Nothing } }
-    {
-        AfterResult {
-            decided: None,
-            next: None,
-        }
     }
 }
 

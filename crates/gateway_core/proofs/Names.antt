@@ -32,4 +32,4 @@ pub use Rattle.gateway_theory.specs.declared.fault.StepFault.TheVariants.{Gone, 
 pub use Rattle.gateway_theory.specs.declared.tally.Tally.{Tally}
 pub use Rattle.gateway_theory.specs.lemmas.Laws.{closes_adds, closes_keeps, closes_stands, closes_told, drains_adds, drains_keeps, drains_stands, feeds_begins, feeds_counts, feeds_keeps, feeds_listens, feeds_one, feeds_stands, feeds_takes, feeds_tells, hangs_adds, hangs_begins, hangs_keeps, hangs_stands, hangs_tells, job_lives, job_stands, job_wanted, reaches_adds, reaches_keeps, reaches_stands, reply_first, reply_its, reply_lives, reply_none, reply_only, reply_stands, results_adds, results_keeps, results_stands, results_tells, starves_adds, starves_keeps, starves_stands, starves_tells, wanted_is, known, first_stands, first_lives, opens_adds, opens_few, opens_keeps, opens_stands, same_keeps, unopens_adds, unopens_stands}
 pub use Rattle.gateway_theory.specs.lemmas.ServingSteps.{drains_serving, open_same, reaches_serving, closes_serving, fed_closed, feeds_serving, hangs_serving, hung_closed, opens_serving, results_serving, taken_like, starved_like, starves_serving, reply_held, reply_serving}
-pub use Rattle.gateway_core.specs.Whole.{gateway_of, held_at, Conns, TiedAt, IsWhole, AreNumbered, IsWithout, AreFit, waiting_for, AllEnd, IsToldOnly, OneBreaks, waiting_all, AreTied, call_kept}
+pub use Rattle.gateway_core.specs.Whole.{gateway_of, held_at, is_gone_at, Conns, TiedAt, IsWhole, AreNumbered, IsWithout, AreFit, waiting_for, AllEnd, IsToldOnly, OneBreaks, waiting_all, AreTied, call_kept}

@@ -1,13 +1,14 @@
 -- What a step of one connection makes of the gateway, and what is kept of it then.
-use Rattle.gateway_core.proofs.Names.{◌≡◌, ℕ, ◌+◌, ◌≤◌, refl, sym, ap, ◌∙◌, List, [], ◌∷◌, ◌++◌, Option, Some, None, Bool, true, false, subst, arith, Result, is_at, set_value, nat_cmp, ⊤, ◌^◌, if◌then◌else◌, one_if_open, GatewayValue, gateway_value, HeldConnection, HangsUp, Holds, TakesReply, TakesResult, TakesStarved, closed_held, is_gone, left_of, IsServing, there, closes, Closes, Feeds, HangsUpAt, Moves, Results, Starves, TakesReplyAt, Tallies, open_in, call_id, CallId, ReplyValue, waiting, Tally, HookedContexts, LeavesRest, MayStep, none_over, IsTied, LeavesOthers, Shared, AreNumbered, Conns, IsWhole, IsWithout, TiedAt, gateway_of, held_at, waiting_all, waiting_for, nat_tests}
+use Rattle.gateway_core.proofs.Names.{◌≡◌, ℕ, ◌+◌, ◌≤◌, refl, sym, ap, ◌∙◌, List, [], ◌∷◌, ◌++◌, Option, Some, None, Bool, true, false, subst, arith, Result, is_at, set_value, nat_cmp, ⊤, ◌^◌, if◌then◌else◌, one_if_open, GatewayValue, gateway_value, HeldConnection, HangsUp, Holds, TakesReply, TakesResult, TakesStarved, closed_held, is_gone, left_of, IsServing, there, closes, Closes, Feeds, HangsUpAt, Moves, Results, Starves, TakesReplyAt, Tallies, open_in, call_id, CallId, ReplyValue, waiting, Tally, HookedContexts, LeavesRest, MayStep, none_over, IsTied, LeavesOthers, Shared, AreNumbered, Conns, IsWhole, IsWithout, TiedAt, gateway_of, held_at, is_gone_at, waiting_all, waiting_for, nat_tests}
 use Rattle.std.proofs.lemmas.Map.Steps.{set_value_same}
+use Rattle.std.specs.Option.{option_map_or}
 use Rattle.connect_codec.specs.declared.answer.Outcome.{Outcome}
 use Rattle.gateway_model.specs.Job.{JobValue}
 use Rattle.gateway_theory.specs.declared.fault.StepFault.{StepFault}
 use Rattle.gateway_theory.specs.declared.fault.Took.{Took}
 use Rattle.gateway_connection.specs.Ends.{TakesFrom}
 use Rattle.gateway_core.proofs.FitLemmas.{dead_waits, gone_tied, tied_at, tied_moved}
-use Rattle.gateway_core.proofs.MapLemmas.{moved_out, moved_set, sum_holds, sum_removed, sum_set}
+use Rattle.gateway_core.proofs.MapLemmas.{moved_out, moved_set, set_here, sum_holds, sum_removed, sum_set}
 use Rattle.gateway_connection.specs.Comes as comes
 
 append_none : {A : Type 0} (xs : List A) → xs ++ [] ≡ xs
@@ -30,6 +31,10 @@ open_left l false stays = ap open_in (left_there l stays)
 waits_left : (n : ℕ) (k l : HeldConnection) (es fs gs : Conns) → Some k ≡ held_at n es → fs ≡ set_value (is_at (nat_cmp n)) es l → (b : Bool) → is_gone l ≡ b → IsWithout b n fs gs → Holds l
     → waiting_all gs + waiting_for k ≡ waiting_all es + waiting_for l
 waits_left n k l es fs gs h6 h7 b h9 h10 h11 = grind (arith, nat_tests, sum_removed, dead_waits, gone_closed, sum_set)
+
+-- what stands there then was looked at, and taken out if it is gone
+pub left_out : (n : ℕ) (k l : HeldConnection) (es fs gs : Conns) → Some k ≡ held_at n es → fs ≡ set_value (is_at (nat_cmp n)) es l → IsWithout (is_gone_at n fs) n fs gs → IsWithout (is_gone l) n fs gs
+left_out n k l es fs gs found set left = subst (λ b. IsWithout b n fs gs) (ap (is_gone_at n) set ∙ ap (λ o. option_map_or is_gone o false) (set_here n k l es (sym found))) left
 
 -- what is said of a number and a gateway is said of the same ones
 pub at_both : (P : ℕ → GatewayValue → Type 0) {n m : ℕ} {v u : GatewayValue} → n ≡ m → v ≡ u → P n v → P m u

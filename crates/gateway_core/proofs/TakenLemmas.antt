@@ -1,5 +1,5 @@
 -- What is taken of the gateway, and what is asked of it.
-use Rattle.gateway_core.proofs.Names.{◌≡◌, ℕ, ◌+◌, refl, sym, ap, ◌∙◌, List, [], ◌∷◌, ◌++◌, length, Option, Some, None, Bool, true, false, arith, lt-ltb, ◌&&◌, if◌then◌else◌, not, is_some, option_map, option_to_list, call_in, untaken_of, GatewayValue, conn_of, value_of, HeldConnection, untaken_value, TakesReply, IsHeld, IsServing, TakesJob, first_gateway, CallId, ReplyValue, waiting, Tally, HookedContexts, none_hooked, LeavesRest, none_over, IsTied, Shared, others_none, Conns, IsWhole, call_kept, gateway_of, nat_tests}
+use Rattle.gateway_core.proofs.Names.{◌≡◌, ℕ, ◌+◌, refl, sym, ap, ◌∙◌, List, [], ◌∷◌, ◌++◌, length, Option, Some, None, Bool, true, false, arith, subst, IsStrictlySortedBy, keys_of, nat_cmp, lt-ltb, ◌&&◌, if◌then◌else◌, not, is_some, option_map, option_to_list, call_in, untaken_of, GatewayValue, conn_of, value_of, HeldConnection, untaken_value, TakesReply, IsHeld, IsServing, TakesJob, first_gateway, CallId, ReplyValue, waiting, Tally, HookedContexts, none_hooked, LeavesRest, none_over, IsTied, Shared, others_none, AreTied, Conns, IsWhole, call_kept, gateway_of, nat_tests}
 use Rattle.call_plan.specs.Plan.{PlanRecord}
 use Rattle.gateway_model.specs.Queue.{front}
 use Rattle.gateway_theory.specs.Tally.{tally_of}
@@ -27,6 +27,18 @@ module _ {H : Type 0} where
   pub first_is : (s : Shared H) (es : Conns) (tally : Tally) (plans : List PlanRecord) → s.plans ≡ plans → s.moment ≡ 0 → s.contexts ≡ none_hooked → s.jobs ≡ jobs_value [] 0 → s.begun ≡ 0 → es ≡ [] → tally ≡ tally_of []
       → first_gateway plans ≡ gateway_of s es 0 tally
   first_is s es tally plans plans_are moment_is contexts_are jobs_are begun_is none tally_is = grind arith
+
+  -- and it is whole
+  pub first_whole : (s : Shared H) (es : Conns) (tally : Tally) → s.moment ≡ 0 → s.contexts ≡ none_hooked → s.jobs ≡ jobs_value [] 0 → es ≡ [] → IsStrictlySortedBy nat_cmp (keys_of es) → IsWhole s es 0 0 tally
+  first_whole s es tally moment_is contexts_are jobs_are none sorted = subst (λ fs. IsWhole s fs 0 0 tally) (sym none) (record {
+    serving = record { each = λ c k is. absurd (let clash : None ≡ Some k = is in cc); sorted = subst (λ fs. IsStrictlySortedBy nat_cmp (keys_of fs)) none sorted; few_open = omega arith };
+    fit = record {
+      tied = subst (AreTied none_over []) (sym contexts_are) (λ c. refl);
+      waits = ap (λ (q : JobsValue). q.waiting) jobs_are;
+      early = omega (arith, moment_is);
+    };
+    open_is = refl;
+  })
 
   -- ---- jobs
 

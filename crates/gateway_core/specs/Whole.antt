@@ -7,6 +7,7 @@ use Rattle.std.specs.Option.{option_map_or}
 use Rattle.std.specs.Ordering.{nat_cmp}
 use Rattle.std.specs.Prelude.{◌≡◌, ℕ, ◌≤◌, ◌^◌, cond, Bool, true, false, List, [], Option, None, Some}
 use Rattle.gateway_theory.specs.Gateway.{open_count}
+use Rattle.gateway_theory.specs.Held.{is_gone}
 use Rattle.gateway_theory.specs.Values.{GatewayValue, gateway_value, HeldConnection, CallState, gone, call_at}
 use Rattle.gateway_theory.specs.Serving.{IsServing}
 use Rattle.gateway_theory.specs.Steps.{MayEnd}
@@ -38,6 +39,10 @@ waiting_all conns = sum_by waiting_for (values_of conns)
 -- what is kept of a call
 abbrev pub call_kept : CallId → Conns → CallState
 call_kept id conns = option_map_or (λ (k : HeldConnection). call_at (call_id k.number id.request) k.calls) (held_at id.conn conns) gone
+
+-- nothing comes back any more to that of the number, if there is one
+abbrev pub is_gone_at : ℕ → Conns → Bool
+is_gone_at n conns = option_map_or is_gone (held_at n conns) false
 
 -- that of the number is taken out, if that is so
 abbrev pub IsWithout : Bool → ℕ → Conns → Conns → Type 0

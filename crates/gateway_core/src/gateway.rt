@@ -14,7 +14,7 @@ ghost use Rattle.gateway_theory.specs.Told.{AddsEvent, AddsOpening, HandsJobs, H
 ghost use Rattle.gateway_model.specs.Known.{IsKnown};
 ghost use Rattle.gateway_model.specs.History.{History, no_history};
 ghost use Rattle.gateway_theory.specs.Served.{Lives, Served};
-ghost use Rattle.gateway_core.specs.Whole.{AreNumbered, IsWithout, call_kept};
+ghost use Rattle.gateway_core.specs.Whole.{AreNumbered, IsWithout, call_kept, is_gone_at};
 
 use crate::broadcast::end_calls;
 use call_plan::Plans;
@@ -186,8 +186,7 @@ impl<H: ReplyHook + Drop> Core<H> {
             return false;
         }
         held.close(&mut self.shared);
-        let gone = held.is_gone();
-        remove_if(&mut self.conns, number, gone);
+        remove_gone(&mut self.conns, number);
         self.open -= 1;
         true
     }
@@ -205,8 +204,7 @@ impl<H: ReplyHook + Drop> Core<H> {
             return Took::unknown();
         };
         let took = held.result(&mut self.shared, call.request, branch, outcome);
-        let gone = held.is_gone();
-        remove_if(&mut self.conns, number, gone);
+        remove_gone(&mut self.conns, number);
         self.tally.add(took.seen);
         took
     }
@@ -226,8 +224,7 @@ impl<H: ReplyHook + Drop> Core<H> {
             return Took::unknown();
         };
         let took = held.starved(&mut self.shared, call.request, branch);
-        let gone = held.is_gone();
-        remove_if(&mut self.conns, number, gone);
+        remove_gone(&mut self.conns, number);
         self.tally.add(took.seen);
         took
     }
@@ -382,10 +379,13 @@ fn is_live(conns: &BTreeMap<u64, Connection>, call: &CallId) -> bool
 }
 
 /// Takes the connection of that number out, if nothing comes back to it any more.
-fn remove_if(conns: &mut BTreeMap<u64, Connection>, number: u64, gone: bool)
-    ensures { IsWithout gone number conns.old.entries conns.new.entries }
+fn remove_gone(conns: &mut BTreeMap<u64, Connection>, number: u64)
+    ensures { IsWithout (is_gone_at number conns.old.entries) number conns.old.entries conns.new.entries }
 {
-    if gone {
+    let Some(held) = conns.get(&number) else {
+        return;
+    };
+    if held.is_gone() {
         conns.remove(&number);
     }
 }

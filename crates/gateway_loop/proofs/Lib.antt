@@ -8,5 +8,3 @@ pub mod LoopLemmas
 pub mod ServingLemmas
 pub mod GrowLemmas
 pub mod AskLemmas
-pub mod AddressLemmas
-pub mod BegunLemmas

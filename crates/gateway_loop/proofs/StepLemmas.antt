@@ -1,11 +1,12 @@
 -- What steps of a client make of what it fits.
-use Rattle.gateway_loop.proofs.Words.{◌≡◌, ℕ, ◌<◌, Bool, true, false, List, [], ◌∷◌, ◌++◌, length, take, Option, Some, refl, sym, ap, ◌∙◌, subst, append_assoc, append-nil, ◌==◌, eq-eqb, map-append, PlanRecord, Event, Piece, HangUp, Closing, Occurs, connections, is_opening, stream, succeeds, History, after_event, after_opening, Past, marked, IsPrefixOf, answer_of, queued, Placed, occurrences, GatewayValue, Served, after_reply, ClientValue, client_value, is_drain, moment_in, result_in, Fits, FitsOn, HasStood, IsQuiet, Leads, MakesSteps, Stands, lingering, LoopLaws}
+use Rattle.gateway_loop.proofs.Words.{◌≡◌, ℕ, ◌<◌, Bool, true, false, List, [], ◌∷◌, ◌++◌, length, take, Option, None, Some, refl, sym, ap, ◌∙◌, subst, append_assoc, append-nil, ◌==◌, eq-eqb, map-append, PlanRecord, Event, Piece, HangUp, Closing, Occurs, connections, is_opening, stream, succeeds, History, after_event, after_opening, Past, marked, IsPrefixOf, answer_of, queued, Placed, occurrences, GatewayValue, Served, after_reply, ClientValue, client_value, is_drain, moment_in, result_in, Fits, FitsOn, HasStood, IsQuiet, Leads, MakesSteps, Stands, lingering, LoopLaws}
 use Rattle.std.proofs.lemmas.Bool.Decides.{nat_tests}
 use Rattle.std.proofs.Common.{arith}
 use Rattle.std.proofs.lemmas.Grind.{flat_map-append}
 use Rattle.gateway_model.specs.declared.entry.ReplyEntry.{ReplyEntry}
 use Rattle.gateway_model.specs.Run.{bytes_of}
 use Rattle.gateway_theory.specs.Replies.{ReplyValue}
+use Rattle.gateway_theory.specs.Served.{with_reply}
 use Rattle.gateway_theory.specs.lemmas.OneEvent.{kept_open, now_hung, shut_open}
 use Rattle.wires.specs.Wires.{Gives}
 use Rattle.wires.specs.declared.got.Got.{Got}
@@ -81,6 +82,18 @@ steps_then u v w x y z first second = record {
       };
 }
 
+pub fits_as_before : (x : ClientValue) → FitsOn x x
+fits_as_before x = record { conn = refl; fits = λ plans h f. f }
+
+-- nothing was read, and nothing written
+pub fits_still : (conn : ℕ) (lingers ended ended' : Bool) (given got waiting given' got' : List ℕ) → given' ≡ given → got' ≡ got → ended' ≡ ended
+    → FitsOn (client_value conn lingers given got ended waiting) (client_value conn lingers given' got' ended' waiting)
+fits_still conn lingers ended ended' given got waiting given' got' reads writes ends =
+    rw (reads, writes, ends) (fits_as_before (client_value conn lingers given got ended waiting))
+
+pub steps_same : (v : GatewayValue) (x : ClientValue) → MakesSteps v v x x
+steps_same v x = steps_fit v x x (fits_as_before x)
+
 -- by an event of its own
 pub steps_event : (v w : GatewayValue) (x y : ClientValue) (e : Event) → w.plans ≡ v.plans → y.conn ≡ x.conn
     → ((h : History) → Served v h → Served w (after_event e h))
@@ -150,6 +163,36 @@ pub fits_reply : (conn : ℕ) (lingers ended : Bool) (given got waiting bytes : 
     → waiting ≡ [] → bytes ≡ (answer_of reply.entry).bytes → (plans : List PlanRecord) (h : History)
     → Fits plans h (client_value conn lingers given got ended waiting) → Fits plans (after_reply conn (Some reply) h) (client_value conn lingers given got ended bytes)
 fits_reply conn lingers ended given got waiting bytes reply not_left none is plans h f = grind (arith, nat_tests, append-nil, bytes_more, eq-eqb, off_is_not)
+
+nothing_taken : (n : ℕ) (taken : ℕ → List ReplyEntry) (c : ℕ) → with_reply n None taken c ≡ taken c
+nothing_taken n taken c = grind (arith, nat_tests, append-nil)
+
+-- no reply was there
+pub fits_no_reply : (conn : ℕ) (x : ClientValue) (plans : List PlanRecord) (h : History) → Fits plans h x → Fits plans (after_reply conn None h) x
+fits_no_reply conn x plans h f = record {
+  stands = λ off.
+      let s = f.stands off in record {
+        known = s.known;
+        still_open = s.still_open;
+        read = s.read;
+        hangs_up = s.hangs_up;
+        written = λ occurred all. s.written occurred all ∙ ap bytes_of (sym (nothing_taken conn h.taken x.conn));
+      };
+  stood = λ on.
+      let s = f.stood on in
+      let e = s.explained in record {
+        explained = record {
+          known = e.known;
+          dropped = e.dropped;
+          read = e.read;
+          all_fed = e.all_fed;
+          hangs_up = e.hangs_up;
+          no_other = e.no_other;
+          written = e.written;
+        };
+        closed = s.closed;
+      };
+}
 
 -- whatever a read came to, more was read, or nothing
 pub gives_more : (old new piece : List ℕ) (got : Got) → Gives old new piece got → (more : List ℕ) × (new ≡ old ++ more)

@@ -28,8 +28,8 @@ pub use Rattle.loop_model.specs.Growing.{HasTicked, Grows, Continues}
 pub use Rattle.loop_model.specs.Handed.{results, IsResultOf, ResultValue, moments, is_drain, moment_in, result_in}
 pub use Rattle.loop_model.specs.Whole.{AsksOn, AsksFairly, ContinuesLoop, GivesUpStream, HasEndedSince, KeepsStream, WholeLoop, asked_at, count_asked, draining_loop}
 pub use Rattle.slab.specs.Slab.{Slab, Updates, entries_from, entries, slab_len}
-pub use Rattle.gateway_loop.specs.Addresses.{AddressesValue, AreOf, addresses_value, next_of, HasParsed}
-pub use Rattle.gateway_loop.specs.Asking.{AskingState, asked_for, Asks, HasGrown, AttemptValue, HadStream, HasBegun, HasEnded, IsUnsent, IsUntouchedAttempt, asking_state, attempt_value}
+pub use Rattle.branch_asking.specs.Addresses.{AddressesValue, AreOf, addresses_value, next_of, HasParsed}
+pub use Rattle.branch_asking.specs.Asking.{AskingState, asked_for, Asks, HasGrown, AttemptValue, HadStream, HasBegun, HasEnded, IsUnsent, IsUntouchedAttempt, asking_state, attempt_value}
 pub use Rattle.gateway_loop.specs.Clients.{Leads, lingering, Fits, HasStood, MakesSteps, Onward, HoldsRest, IsHeld, IsQuiet, OpensNone, lingers_in, HandsNothing, Follows, IsStreamOf, IsServing, FitsOn, Stands}
 pub use Rattle.gateway_loop.specs.Laws.{LoopLaws}
 pub use Rattle.gateway_loop.specs.Loop.{Goes, TellsLoop, whole_loop}

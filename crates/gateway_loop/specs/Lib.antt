@@ -1,5 +1,3 @@
 pub mod Laws
-pub mod Addresses
-pub mod Asking
 pub mod Clients
 pub mod Loop

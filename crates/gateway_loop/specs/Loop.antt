@@ -4,7 +4,7 @@ use Rattle.connect_codec.specs.declared.answer.Outcome.{Outcome}
 use Rattle.loop_model.specs.Asking.{ended_value}
 use Rattle.loop_model.specs.Explained.{LoopValue}
 use Rattle.loop_model.specs.Whole.{ContinuesLoop, WholeLoop}
-use Rattle.gateway_loop.specs.Asking.{AskingState, asked_for}
+use Rattle.branch_asking.specs.Asking.{AskingState, asked_for}
 use Rattle.gateway_loop.specs.Clients.{Starts, Tells}
 
 abbrev pub whole_loop : LoopValue → List (Option AskingState) → List (AskingState × Option Outcome) → WholeLoop

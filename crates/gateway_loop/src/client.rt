@@ -5,9 +5,8 @@ ghost use Rattle.gateway_loop.specs.Clients.{FitsOn, MakesSteps, lingering};
 ghost use Rattle.gateway_model.specs.declared.event.Event.TheVariants.{HangUp, Piece};
 ghost use Rattle.gateway_theory.specs.Told.{TakesEvent};
 
-use crate::hints::Edges;
 use crate::limits::MOST_WRITES;
-use crate::network::Network;
+use branch_asking::{Edges, Network};
 use gateway_core::{CallId, ConnId, Core, ReplyEntry, ReplyHook};
 use http_pieces::Bytes;
 use std::alloc::Global;
@@ -48,7 +47,7 @@ impl<W: Wire> Model for Client<W> {
 }
 
 /// What is done with a client's stream.
-#[derive(Clone, Copy, PartialEq, Eq, Debug)]
+#[derive(Clone, Copy, PartialEq, Eq)]
 pub(crate) enum Phase {
     /// It is read, and replies are written.
     Reads,
@@ -59,7 +58,7 @@ pub(crate) enum Phase {
 }
 
 /// What reading a client's stream came to.
-#[derive(Clone, Copy, PartialEq, Eq, Debug)]
+#[derive(Clone, Copy, PartialEq, Eq)]
 pub(crate) enum Heard {
     /// Nothing that changes anything.
     Nothing,
@@ -72,7 +71,7 @@ pub(crate) enum Heard {
 }
 
 /// What writing to a client's stream came to.
-#[derive(Clone, Copy, PartialEq, Eq, Debug)]
+#[derive(Clone, Copy, PartialEq, Eq)]
 pub(crate) enum Written {
     /// All that is there.
     All,

@@ -9,11 +9,10 @@ ghost use Rattle.loop_model.specs.Standing.{count_clients, count_lingering};
 
 use crate::client::{Client, Heard, Phase, Written};
 use crate::comings::Dealt;
-use crate::hints::Edges;
 use crate::laws::loop_laws;
 use crate::limits::MOST_CLIENTS;
 use crate::moments::is_due;
-use crate::network::Network;
+use branch_asking::{Edges, Network};
 use call_plan::Plans;
 use connect_codec::Outcome;
 use gateway_core::{ConnId, Core, Job, ReplyHook};
@@ -63,8 +62,8 @@ impl<H: ReplyHook + Drop, W: Wire + Drop> Clients<H, W> {
     {
         Ok(Clients {
             alloc,
-            core: Core::new(alloc, plans)?,
             clients: Slab::with_capacity(alloc, MOST_CLIENTS)?,
+            core: Core::new(alloc, plans)?,
             moment: 0,
             gone: Log::new(),
             told: Log::new(),
@@ -268,26 +267,34 @@ impl<H: ReplyHook + Drop, W: Wire + Drop> Clients<H, W> {
 
     /// Whether the client in that place is to be read, where its stream may have bytes.
     pub(crate) fn is_to_be_read(&self, place: usize) -> bool {
-        let client = self.clients.get(place);
-        client.is_some_and(|client| client.is_to_be_read(&self.core))
+        match self.clients.get(place) {
+            Some(client) => client.is_to_be_read(&self.core),
+            None => false,
+        }
     }
 
     /// Whether the client in that place is owed nothing, and brings nothing more.
     pub(crate) fn is_to_leave(&self, place: usize) -> bool {
-        let client = self.clients.get(place);
-        client.is_some_and(|client| client.is_to_leave(&self.core))
+        match self.clients.get(place) {
+            Some(client) => client.is_to_leave(&self.core),
+            None => false,
+        }
     }
 
     /// Whether each request of the client in that place has its reply, and that was taken.
     pub(crate) fn is_owed_nothing(&self, place: usize) -> bool {
-        let client = self.clients.get(place);
-        client.is_some_and(|client| client.is_owed_nothing(&self.core))
+        match self.clients.get(place) {
+            Some(client) => client.is_owed_nothing(&self.core),
+            None => false,
+        }
     }
 
     /// Whether nothing is owed to the client in that place: each of its requests has its reply, and that was written.
     pub(crate) fn is_idle(&self, place: usize) -> bool {
-        let client = self.clients.get(place);
-        client.is_some_and(|client| client.is_owed_nothing(&self.core) && client.has_written_all())
+        match self.clients.get(place) {
+            Some(client) => client.is_owed_nothing(&self.core) && client.has_written_all(),
+            None => false,
+        }
     }
 
     /// Whether a reply is there for the connection, or it no longer brings requests or replies.

@@ -1,21 +1,12 @@
 ghost use Rattle.std.specs.Prelude.{◌≡◌, [], false};
 
+use branch_asking::Ready;
 use gateway_core::Stock;
 use std::alloc::Global;
 use std::collections::VecDeque;
 use std::marker::Model;
 use std::net::SocketAddr;
 use wires::Wire;
-
-/// That something may be done without waiting at the stream of this token. It may be stale, or name nobody.
-#[derive(Clone, Copy, PartialEq, Eq, Debug)]
-pub struct Ready {
-    pub token: usize,
-    pub readable: bool,
-    pub writable: bool,
-    /// Whether its peer has ended its side, so that a read may find the end behind what is there.
-    pub read_closed: bool,
-}
 
 /// A client's stream, of which nothing was read or written yet, and the hooks of its connection.
 #[derive(Drop)]

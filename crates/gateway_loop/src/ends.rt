@@ -1,41 +1,11 @@
-ghost use Rattle.std.specs.Prelude.{◌≡◌, IfSome, Some};
+ghost use Rattle.std.specs.Prelude.{◌≡◌};
 
 use crate::limits::MOST_EXCHANGES;
-use crate::network::Network;
+use branch_asking::{BranchEnd, Network};
 use branch_causes::Cause;
-use gateway_core::Job;
 use std::alloc::{AllocError, Global};
 use std::collections::VecDeque;
-use std::str;
 use wires::Wire;
-
-/// What asking the backend of a branch came to. No law speaks of it.
-#[derive(Drop)]
-pub struct BranchEnd {
-    pub(crate) job: Job,
-    /// What ended it.
-    pub cause: Cause,
-    /// The backend's status, if a reply came.
-    pub status: Option<u16>,
-    /// The milliseconds that it took.
-    pub took: u64,
-}
-
-impl BranchEnd {
-    /// The job that was asked for.
-    pub fn job(&self) -> &Job
-        ensures { result.now ≡ self.now.job }
-    {
-        &self.job
-    }
-
-    /// The request id of the call, if it has one that is a text.
-    pub fn request_id(&self) -> Option<&str>
-        ensures { IfSome result (λ id. self.now.job.job.request_id ≡ Some id.now) }
-    {
-        str::from_utf8(self.job.request_id()?).ok()
-    }
-}
 
 /// What came of branches, until it is told. No law speaks of it.
 #[derive(Drop)]

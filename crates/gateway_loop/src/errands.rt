@@ -1,14 +1,13 @@
 ghost use Rattle.gateway_loop.specs.Loop.{Goes, TellsLoop};
 ghost use Rattle.std.specs.Prelude.{◌≡◌};
 
-use crate::asking::Progress;
 use crate::comings::LookedUp;
 use crate::event_loop::EventLoop;
-use crate::hints::{Edges, Errand};
+use crate::hints::Errand;
 use crate::limits::{ATTEMPT, MOST_ADDRESSES, MOST_EXCHANGES};
 use crate::moments::is_due;
-use crate::network::Network;
 use crate::tokens::{exchange_token, timer_id};
+use branch_asking::{Edges, Network, Progress};
 use branch_exchange::Loss;
 use gateway_core::{CallId, ReplyHook};
 use std::alloc::{AllocError, Global};
@@ -179,7 +178,7 @@ impl<H: ReplyHook + Drop, W: Wire + Drop> EventLoop<H, W> {
     {
         let mut loss = loss;
         for _address in 0..MOST_ADDRESSES {
-            if !self.connect(net, place) {
+            if !self.exchanges.connect(net, place) {
                 break;
             }
             match self.go_over(place) {
@@ -190,15 +189,6 @@ impl<H: ReplyHook + Drop, W: Wire + Drop> EventLoop<H, W> {
             }
         }
         self.lose(net, place, Some(loss));
-    }
-
-    /// The exchange in that place goes over a stream to the next of its addresses from now on. False where there is none.
-    fn connect<N: Network<W>>(&mut self, net: &mut N, place: usize) -> bool
-        ensures goes { Goes self.old self.new }
-        ensures told { self.new.side.told ≡ self.old.side.told }
-        ensures same { N.told net.new ≡ N.told net.old }
-    {
-        self.exchanges.connect(net, place)
     }
 
     /// The exchange in that place writes its request to its new stream.
@@ -256,8 +246,10 @@ impl<H: ReplyHook + Drop, W: Wire + Drop> EventLoop<H, W> {
 
     /// Whether the stream of the exchange in that place took a byte.
     fn is_connected(&self, place: usize) -> bool {
-        let asking = self.exchanges.asking(place);
-        asking.is_some_and(|asking| asking.attempt().is_connected())
+        match self.exchanges.asking(place) {
+            Some(asking) => asking.attempt().is_connected(),
+            None => false,
+        }
     }
 
     /// Sets how long the new stream of an exchange has: where another address follows, half of the time that is left, or a second. False
@@ -266,12 +258,15 @@ impl<H: ReplyHook + Drop, W: Wire + Drop> EventLoop<H, W> {
         ensures goes { Goes self.old self.new }
         ensures told { self.new.side.told ≡ self.old.side.told }
     {
-        let asking = self.exchanges.asking(place);
-        let has_others = asking.is_some_and(|asking| asking.has_others());
-        if self.is_connected(place) || !has_others {
+        let Some(asking) = self.exchanges.asking(place) else {
+            return self.end_attempt(place);
+        };
+        if asking.attempt().is_connected() || !asking.has_others() {
             return self.end_attempt(place);
         }
-        self.set_timed(place, true);
+        if let Some(errand) = self.errands.get_mut(place) {
+            errand.is_timed = true;
+        }
         let moment = self.clients().moment();
         let until = match self.deadline_of(place) {
             // at least a millisecond from now
@@ -281,34 +276,18 @@ impl<H: ReplyHook + Drop, W: Wire + Drop> EventLoop<H, W> {
         self.set_until(place, Some(until))
     }
 
-    /// Whether the time limit of the exchange in that place is that of its address.
-    fn set_timed(&mut self, place: usize, is_timed: bool)
-        ensures goes { Goes self.old self.new }
-        ensures told { self.new.side.told ≡ self.old.side.told }
-    {
-        if let Some(errand) = self.errands.get_mut(place) {
-            errand.is_timed = is_timed;
-        }
-    }
-
-    /// Once its stream took a byte, an exchange has all the time that its job has. False for want of memory.
-    pub(crate) fn renew_until(&mut self, place: usize) -> bool
-        ensures goes { Goes self.old self.new }
-        ensures told { self.new.side.told ≡ self.old.side.told }
-    {
-        !self.is_connected(place) || self.end_attempt(place)
-    }
-
     /// The exchange in that place has all the time that its job has.
     fn end_attempt(&mut self, place: usize) -> bool
         ensures goes { Goes self.old self.new }
         ensures told { self.new.side.told ≡ self.old.side.told }
     {
-        let errand = self.errands.get(place);
-        if !errand.is_some_and(|errand| errand.is_timed) {
+        let Some(errand) = self.errands.get_mut(place) else {
+            return true;
+        };
+        if !errand.is_timed {
             return true;
         }
-        self.set_timed(place, false);
+        errand.is_timed = false;
         let deadline = self.deadline_of(place);
         self.set_until(place, deadline)
     }
@@ -344,7 +323,8 @@ impl<H: ReplyHook + Drop, W: Wire + Drop> EventLoop<H, W> {
         ensures goes { Goes self.old self.new }
         ensures told { TellsLoop (N.told net.old) (N.told net.new) self.old self.new }
     {
-        if !self.renew_until(place) {
+        // once its stream took a byte, it has all the time that its job has
+        if self.is_connected(place) && !self.end_attempt(place) {
             return self.lose(net, place, None);
         }
         match progress {
@@ -407,10 +387,13 @@ impl<H: ReplyHook + Drop, W: Wire + Drop> EventLoop<H, W> {
     {
         let mut number = 0usize;
         for _exchange in 0..MOST_EXCHANGES {
-            let hints = self.hints.get(client);
-            let Some(place) = hints.and_then(|hints| hints.exchanges.get(number).copied()) else {
+            let Some(hints) = self.hints.get(client) else {
                 return;
             };
+            let Some(place) = hints.exchanges.get(number) else {
+                return;
+            };
+            let place = *place;
             if self.is_wanted_at(place) {
                 number = number.saturating_add(1);
             } else {
@@ -420,8 +403,10 @@ impl<H: ReplyHook + Drop, W: Wire + Drop> EventLoop<H, W> {
     }
 
     fn is_wanted_at(&self, place: usize) -> bool {
-        let asking = self.exchanges.asking(place);
-        asking.is_some_and(|asking| self.clients().core().is_wanted(&asking.job().call()))
+        match self.exchanges.asking(place) {
+            Some(asking) => self.clients().core().is_wanted(&asking.job().call()),
+            None => false,
+        }
     }
 
     /// Gives up the exchange in that place: nobody waits for it any more.
@@ -438,16 +423,6 @@ impl<H: ReplyHook + Drop, W: Wire + Drop> EventLoop<H, W> {
         };
         self.exchanges.lose(place, Some(loss));
         let _ended = self.finish(place);
-    }
-
-    /// Gives up the exchanges in these places.
-    pub(crate) fn give_up_all(&mut self, places: Vec<usize>)
-        ensures goes { Goes self.old self.new }
-        ensures told { self.new.side.told ≡ self.old.side.told }
-    {
-        for place in places {
-            self.give_up(place);
-        }
     }
 
     /// There is no memory to serve the exchange in that place: it is over, since else it would hang.

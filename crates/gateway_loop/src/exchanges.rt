@@ -5,14 +5,11 @@ ghost use Rattle.gateway_theory.specs.Served.{Served};
 ghost use Rattle.loop_model.specs.Growing.{HasTicked};
 ghost use Rattle.loop_model.specs.Whole.{IsExplainedLoop, draining_loop};
 
-use crate::asking::{Asking, Progress};
 use crate::client::{Heard, Written};
 use crate::clients::Clients;
 use crate::comings::Dealt;
-use crate::ends::BranchEnd;
-use crate::hints::Edges;
 use crate::limits::MOST_EXCHANGES;
-use crate::network::Network;
+use branch_asking::{Asking, BranchEnd, Edges, Network, Progress};
 use branch_exchange::Loss;
 use call_plan::Plans;
 use connect_codec::Outcome;
@@ -57,8 +54,8 @@ impl<H: ReplyHook + Drop, W: Wire + Drop> Exchanges<H, W> {
     {
         Ok(Exchanges {
             alloc,
-            clients: Clients::new(alloc, plans)?,
             asking: Slab::with_capacity(alloc, MOST_EXCHANGES)?,
+            clients: Clients::new(alloc, plans)?,
             ended: Log::new(),
         })
     }

@@ -2,10 +2,6 @@
 //! without waiting. It does no input or output but through a `Network` and its wires.
 #![tactic(auto)]
 
-mod addresses;
-mod asking;
-mod attempt;
-mod backend;
 mod client;
 mod clients;
 mod comings;
@@ -18,12 +14,10 @@ mod laws;
 mod limits;
 mod moments;
 mod names;
-mod network;
 mod serving;
 mod tokens;
 
-pub use comings::{Comings, Dealt, LookedUp, Ready};
-pub use ends::BranchEnd;
+pub use branch_asking::{BranchEnd, Network, Ready};
+pub use comings::{Comings, Dealt, LookedUp};
 pub use event_loop::{EventLoop, LoopStanding};
 pub use limits::{MOST_ADDRESSES, MOST_EXCHANGES, MOST_LINGERING};
-pub use network::Network;

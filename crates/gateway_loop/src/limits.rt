@@ -16,9 +16,6 @@ pub(crate) const MOST_TIMERS: usize = MOST_EXCHANGES + MOST_CLIENTS;
 /// So often a client's stream is written in a turn at most.
 pub(crate) const MOST_WRITES: u32 = 16;
 
-/// So often a backend's stream is read in a turn at most, and written.
-pub(crate) const MOST_STEPS: u32 = 4;
-
 /// So many exchanges are begun in a turn at most.
 pub(crate) const MOST_STARTS: u32 = 256;
 

@@ -6,7 +6,7 @@ ghost use Rattle.std.specs.Prelude.{◌≡◌};
 use crate::comings::Comings;
 use crate::event_loop::EventLoop;
 use crate::limits::{MOST_EXCHANGES, MOST_STARTS};
-use crate::network::Network;
+use branch_asking::Network;
 use gateway_core::ReplyHook;
 use wires::Wire;
 
@@ -121,5 +121,8 @@ impl<H: ReplyHook + Drop, W: Wire + Drop> EventLoop<H, W> {
 
 /// Whether the deadline has come.
 pub(crate) fn is_due(deadline: Option<u64>, moment: u64) -> bool {
-    deadline.is_some_and(|deadline| deadline <= moment)
+    match deadline {
+        Some(deadline) => deadline <= moment,
+        None => false,
+    }
 }

@@ -1,6 +1,6 @@
 ghost use Rattle.std.specs.Prelude.{◌≡◌, ◌<◌, length, IfSome};
 
-use crate::network::Network;
+use branch_asking::Network;
 use slab::Slab;
 use std::alloc::{AllocError, Global};
 use wires::Wire;

@@ -3,12 +3,12 @@ ghost use Rattle.loop_model.specs.Whole.{ContinuesLoop};
 ghost use Rattle.std.specs.Prelude.{◌≡◌};
 
 use crate::client::{Heard, Phase, Written};
-use crate::comings::{Dealt, Ready};
+use crate::comings::Dealt;
 use crate::event_loop::EventLoop;
 use crate::hints::Hints;
 use crate::limits::{LINGER, MOST_LINGERING, MOST_TIMERS};
-use crate::network::Network;
 use crate::tokens::{Owner, client_token, exchange_token, owner_of, timer_id};
+use branch_asking::{Network, Ready};
 use gateway_core::ReplyHook;
 use std::collections::VecDeque;
 use std::mem;
@@ -318,11 +318,13 @@ impl<H: ReplyHook + Drop, W: Wire + Drop> EventLoop<H, W> {
         ensures told { self.new.side.told ≡ self.old.side.told }
     {
         self.open.retain(|open| open.1 != place);
-        let exchanges = match self.hints.get_mut(place) {
-            Some(hints) => mem::replace(&mut hints.exchanges, Vec::new(self.alloc)),
-            None => return,
+        let Some(hints) = self.hints.get_mut(place) else {
+            return;
         };
-        self.give_up_all(exchanges);
+        let exchanges = mem::replace(&mut hints.exchanges, Vec::new(self.alloc));
+        for exchange in exchanges {
+            self.give_up(exchange);
+        }
     }
 
     /// The client in that place goes, and its stream is closed.
@@ -336,8 +338,10 @@ impl<H: ReplyHook + Drop, W: Wire + Drop> EventLoop<H, W> {
 
     /// Whether the stream of the client in that place may have bytes.
     pub(crate) fn may_read(&self, place: usize) -> bool {
-        let hints = self.hints.get(place);
-        hints.is_some_and(|hints| hints.edges.may_read)
+        match self.hints.get(place) {
+            Some(hints) => hints.edges.may_read,
+            None => false,
+        }
     }
 
     /// Ends the exchanges whose time is over, and lets go of those that lingered long enough.

@@ -1,5 +1,5 @@
 /// What a token names: the place of a client, or that of an exchange.
-#[derive(Clone, Copy, PartialEq, Eq, Debug)]
+#[derive(Clone, Copy)]
 pub(crate) enum Owner {
     Client(usize),
     Exchange(usize),

@@ -1,6 +1,18 @@
 -- The hooks of connections and of calls, beside their contexts.
-use Rattle.gateway_replies.proofs.Names.{◌≡◌, ℕ, ◌<◌, zero, suc, refl, sym, ap, ◌∙◌, List, [], ◌∷◌, ◌++◌, append-nil, Option, Some, None, true, false, ⊎_elim, inr, subst, length, arith, ◌⊎◌, IfNone, IfOk, IfSome, OnErr, OnOk, Result, Ok, Err, ◌==◌, not, if◌then◌else◌, filter, slice_set, slice_index_or, list_any, cases_Bool, eqb-true, or_parts, map_push, All-head, All-tail, same_Some, Id, same, WithHooks, with_standing, ctx_for, first_of, hook_for, CallId, is_call, all_stay, Peer, names_in, AllContexts, CallContext, ContextsValue, ctx_of, BringsHooks, Called, DropsHooks, GivesBytes, HookedContexts, Hooks, KeepsHooks, LosesHook, KeepsStocks, Stocks, TakesHook, hook_of, hooked, hooks_but, hooks_of_others, stock_in, stock_of, AreHooked, Takes, hooks_of, peer_ties, stock_tie, stock_ties, nat_tests}
+use Rattle.gateway_replies.proofs.Names.{◌≡◌, ℕ, ◌<◌, zero, suc, refl, sym, ap, ◌∙◌, List, [], ◌∷◌, ◌++◌, append-nil, Option, Some, None, true, false, ⊎_elim, inr, subst, length, arith, ◌⊎◌, IfNone, IfOk, IfSome, OnErr, OnOk, Result, Ok, Err, ◌==◌, not, if◌then◌else◌, filter, slice_set, slice_index_or, list_any, cases_Bool, eqb-true, or_parts, map_push, All-head, All-tail, same_Some, Id, same, WithHooks, with_standing, ctx_for, first_of, hook_for, CallId, is_call, all_stay, ending_for, option_map, option_map_or, Peer, names_in, AllContexts, CallContext, ContextsValue, ctx_of, BringsHooks, Called, DropsHooks, GivesBytes, HookedContexts, Hooks, KeepsHooks, LosesHook, KeepsStocks, Stocks, TakesHook, hook_of, hooked, hooks_but, hooks_of_others, stock_in, stock_of, AreHooked, Takes, hooks_of, peer_ties, stock_tie, stock_ties, nat_tests}
 use Rattle.gateway_replies.specs.Hooks.{MayLoseHook}
+use Rattle.std.specs.Prelude.{option_and_then}
+use Rattle.connect_codec.specs.Reply.{error_reply}
+use Rattle.error_document.specs.declared.document.RpcError.{RpcError}
+use Rattle.gateway_model.specs.CallRecord.{CallRecord, last_event}
+use Rattle.gateway_model.specs.Duty.{MeetsDuty}
+use Rattle.gateway_model.specs.Errors.{cause_error, cause_of, ending_error, error_of}
+use Rattle.gateway_model.specs.Queue.{call_reply}
+use Rattle.gateway_model.specs.Reply.{reply_of}
+use Rattle.gateway_model.specs.declared.call_event.CallEvent.{CallEvent}
+use Rattle.gateway_model.specs.declared.ending.EndCause.{EndCause}
+use Rattle.gateway_theory.specs.Endings.{ending_with}
+use Rattle.gateway_theory.specs.Replies.{joined_reply}
 use Rattle.gateway_replies.specs.Ties.{AreOthers}
 use Rattle.http_pieces.specs.Request.{most_requests}
 use Rattle.std.specs.declared.alloc.AllocError.{AllocError}
@@ -226,3 +238,21 @@ module _ {H : Type 0} (gives : H → Ending → Result (List ℕ) AllocError →
   pub gives_none : (r : Result (List ℕ) AllocError) (v : HookedContexts H) → None ≡ told → IfOk r (λ bytes. GivesBytes gives id told bytes v)
   gives_none (Ok bytes) v is = λ hook other its told_is. absurd (let clash : None ≡ Some other = is ∙ told_is in cc)
   gives_none (Err error) v is = tt
+
+-- .. and of its bytes
+module _ (call : CallRecord) where
+  -- what tells this error, or the answers joined
+  abbrev bytes_as : Option RpcError → List ℕ
+  bytes_as o = (option_map_or (λ error. reply_of (error_reply error call.last) call.last) o (reply_of (joined_reply call.plan call.events call.last) call.last)).bytes
+
+  error_is : (e : Option CallEvent) → option_and_then (error_of call.plan) e ≡ option_map cause_error (option_and_then (cause_of call.plan) e)
+  error_is None = refl
+  error_is (Some e) = refl
+
+  error_bytes : (o : Option EndCause) (ending : Ending) → Some ending ≡ option_map (λ cause. ending_with cause call.last) o → error_reply (ending_error ending) ending.last ≡ bytes_as (option_map cause_error o)
+  error_bytes None ending is = cc
+  error_bytes (Some cause) ending is = ap (λ (e : Ending). error_reply (ending_error e) e.last) (same_Some ending (ending_with cause call.last) is)
+
+  pub bytes_told : (ending : Ending) (r : Result (List ℕ) AllocError) → Some ending ≡ ending_for call → IfOk r (MeetsDuty ending) → IfOk r (λ bytes. bytes ≡ (call_reply call).bytes)
+  bytes_told ending (Ok bytes) is met = met ∙ error_bytes (option_and_then (cause_of call.plan) (last_event call.events)) ending is ∙ sym (ap bytes_as (error_is (last_event call.events)))
+  bytes_told ending (Err e) is met = tt

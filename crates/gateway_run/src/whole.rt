@@ -84,9 +84,24 @@ fn whole_run<H: ReplyHook + Drop>(
         run.opened.items run.queued.items run.starts.items (map (λ j. j.job) run.jobs.items) run.broken.items) }
 {
     let mut core = Core::new(alloc, plans)?;
+    run_of(alloc, &mut core, events, stocks)
+}
+
+/// What is taken down of a core that begins.
+fn run_of<H: ReplyHook + Drop>(
+    alloc: Global,
+    core: &mut Core<H>,
+    events: Vec<Event>,
+    stocks: Vec<Stock<H>>,
+) -> Result<Run, AllocError>
+    requires { length stocks.items ≡ count_by is_opening events.items }
+    ensures { HasRun (λ c. false) core.old (log_value [] [] [] [] []) []
+        → IfOk result (λ run. IsRun core.old.plans (newest_first events.items)
+        run.opened.items run.queued.items run.starts.items (map (λ j. j.job) run.jobs.items) run.broken.items) }
+{
     let mut log = Log::new(alloc);
-    take_events(&mut core, &mut log, events, stocks)?;
-    collect_all(&mut core, &mut log)?;
+    take_events(core, &mut log, events, stocks)?;
+    collect_all(core, &mut log)?;
     let broken = listed(alloc, &log.broke)?;
     Ok(Run {
         opened: log.opened,

@@ -166,6 +166,6 @@ impl Network<Told<MemoryStream>> for ScriptedNetwork {
     }
 
     fn tell_branch(&mut self, end: &BranchEnd) {
-        let _ = self.ended.push((end.job().branch(), end.cause));
+        let _ = self.ended.push((end.job.branch(), end.cause));
     }
 }

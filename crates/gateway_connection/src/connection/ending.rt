@@ -58,10 +58,11 @@ impl Connection {
         ensures ok { OnOk result (EndsOne index (ending_of index self.old shared.old) self.old self.new shared.old shared.new) }
         ensures err { OnErr result (FailsOne (ending_of index self.old shared.old) self.old self.new shared.old shared.new) }
     {
-        if !self.calls[index].is_live() {
+        let call = &self.calls[index];
+        if !call.is_live() {
             return Ok(());
         }
-        let id = self.calls[index].id();
+        let id = call.id();
         let Some(event) = shared.contexts.ending(&id, shared.moment) else {
             return Ok(());
         };

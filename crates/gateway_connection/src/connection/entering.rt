@@ -1,7 +1,8 @@
 //! What comes on a connection's stream: it is answered at once, or begins a call.
-ghost use Rattle.std.specs.Prelude.{[], ◌≡◌, ◌+◌, ◌<◌, ◌≤◌, ◌++◌, ◌^◌, Some, None as Nothing, IfErr, IfOk, OnOk, OnErr, false, true, length, map};
+ghost use Rattle.std.specs.Prelude.{[], ◌≡◌, ◌+◌, ◌<◌, ◌≤◌, ◌++◌, ◌^◌, Some, None as Nothing, IfErr, IfOk, OnOk, OnErr, false, true, length, map, option_map};
+ghost use Rattle.std.specs.Arc.{arc_value};
 ghost use Rattle.http_pieces.specs.Request.{most_requests};
-ghost use Rattle.gateway_model.specs.Arrival.{arrival_of};
+ghost use Rattle.gateway_model.specs.Arrival.{arrival_of, plan_of};
 ghost use Rattle.gateway_model.specs.Occurrence.{Coming};
 ghost use Rattle.gateway_replies.specs.Contexts.{KeepsOthers};
 ghost use Rattle.gateway_replies.specs.Hooks.{TakesAtMostOne};
@@ -23,6 +24,7 @@ use crate::jobs::JobQueue;
 use crate::shared::Shared;
 use crate::task::Task;
 use crate::times::start_first;
+use call_plan::{Plan, Plans};
 use connect_codec::laws::timeout_law;
 use connect_codec::{Verdict, judge, target_path};
 use gateway_replies::{
@@ -32,6 +34,7 @@ use gateway_theory::StepFault;
 use http_pieces::{Refusal, Request};
 use std::alloc::AllocError;
 use std::collections::VecDeque;
+use std::sync::Arc;
 
 /// Calls that may be begun.
 const MOST_BEGUN: u64 = 1 << 56;
@@ -86,10 +89,7 @@ impl Connection {
         ensures err { OnErr result (MayFail self.now self.now shared.old shared.new) }
     {
         timeout_law();
-        let plan = match target_path(&request) {
-            Some(path) => shared.plans.find(path),
-            None => None,
-        };
+        let plan = plan_named(&shared.plans, &request);
         match judge(shared.alloc, &request, plan.is_some())? {
             Verdict::Ask {
                 timeout,
@@ -189,6 +189,16 @@ impl Connection {
         start_all(&mut shared.jobs, first, shared.moment);
         shared.begun += 1;
         Ok(())
+    }
+}
+
+/// The plan that the request's path names, if there is one.
+fn plan_named<'a>(plans: &'a Plans, request: &Request) -> Option<&'a Arc<Plan>>
+    ensures { option_map (λ p. arc_value p.now) result ≡ plan_of plans.now request.now }
+{
+    match target_path(request) {
+        Some(path) => plans.find(path),
+        None => None,
     }
 }
 

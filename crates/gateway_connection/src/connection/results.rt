@@ -1,6 +1,5 @@
 //! Results of branches, as they come to a connection.
 ghost use Rattle.std.specs.Prelude.{[], ◌≡◌, ◌-◌, ◌<◌, ◌≤◌, ◌^◌, ◌++◌, IfOk, None as Nothing, OnErr, OnOk, length, map, option_to_list, true};
-ghost use Rattle.std.specs.List.{remove};
 ghost use Rattle.gateway_model.specs.Past.{call_id};
 ghost use Rattle.gateway_theory.specs.Step.{has_out};
 ghost use Rattle.gateway_theory.specs.Store.{kept_at, waiting};
@@ -15,7 +14,6 @@ ghost use Rattle.gateway_connection.specs.OwnContexts.{IsTied};
 use crate::connection::Connection;
 use crate::job::Job;
 use crate::jobs::JobQueue;
-use crate::kept::Kept;
 use crate::shared::Shared;
 use crate::task::Task;
 use connect_codec::Outcome;
@@ -67,8 +65,9 @@ impl Connection {
         let Some(index) = self.out_at(request, branch) else {
             return Took::unknown();
         };
-        let seen = self.calls[index].seen();
-        if self.calls[index].is_live() {
+        let call = &self.calls[index];
+        let seen = call.seen();
+        if call.is_live() {
             self.lose(shared, index, branch);
             return Took { seen, broke: true };
         }
@@ -172,17 +171,9 @@ impl Connection {
         ensures { Forgets (kept_at index self.old.calls).id self.old self.new }
     {
         if self.calls[index].is_spent() {
-            drop_at(&mut self.calls, index);
+            self.calls.remove(index);
         }
     }
-}
-
-/// Lets the call at that place go.
-fn drop_at(calls: &mut Vec<Kept>, index: usize)
-    requires { index < length calls.old.items }
-    ensures { calls.new.items ≡ remove calls.old.items index }
-{
-    calls.remove(index);
 }
 
 /// So many branches wait no more. One of them starts, if that is given.

@@ -214,7 +214,20 @@ module _ (opened : List ℕ) (e : Event) (h : History) (v w : CoreValue) (plans_
 module _ (opened : List ℕ) (e : Event) (h : History) (v w : CoreValue) (plans_are : w.plans ≡ v.plans) where
   pub served_by : ((past : List Placed) → HasConns v h.opened h.events → Occurs v.plans opened h.events past → Occurs v.plans h.opened h.events past)
       → Adds opened e h v w → Served v h → Served w (then_came opened e h)
-  served_by back a s = grind (arith, nat_tests, events_are)
+  served_by back a s = record {
+    conns = a.conns s.conns;
+    stands = λ occurred all. by_past occurred (subst (λ plans. Occurs plans opened (e ∷ h.events) occurred) plans_are all);
+  }
+    where
+      by_past : (occurred : List Placed) → Occurs v.plans opened (e ∷ h.events) occurred
+          → (lived : List Placed) × (by_events lived ≡ occurred) × Lives w (then_came opened e h) lived
+      by_past occurred (past, before, (os, at, is)) =
+          let was = s.stands past (back past s.conns before) in
+          let x = a.lives was.0 was.2 os at in (
+            at_place (length h.events) x.0 ++ was.0,
+            events_are (length h.events) x.0 os was.0 x.1 ∙ ap (λ us. onto (length h.events) os us) was.1 ∙ sym is,
+            x.2,
+          )
 
 -- where no opening succeeded
 module _ (e : Event) (h : History) (v w : CoreValue) (plans_are : w.plans ≡ v.plans) where

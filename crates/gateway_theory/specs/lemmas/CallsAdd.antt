@@ -201,7 +201,9 @@ results_adds id branch outcome v w took h (there k l jobs k_is t m tally w_is) s
 
     by : TakesResult v.moment id branch outcome k l jobs took → Adds h.opened (event.BranchResult id.conn id.request branch outcome) h (core_of v) (core_of w)
     by (unknown out t l_is none) = unknown_adds id branch outcome v w h (none_out_in id branch v k k_is s out) (unknown_same id v w k l jobs k_is s m w_is l_is none)
-    by (settled i found out t forgets jobs_are own) = grind (arith, nat_tests, unknown_adds, none_out_in, unknown_same, settled_adds, plans_are, now_is, both, lost_adds)
+    by (settled i found out t forgets jobs_are own) =
+        settled_adds id branch v w k l k_is s m plans_are now_is (ap (λ (x : GatewayValue). x.opened) w_is) (ap (λ (x : GatewayValue). x.begun) w_is) both.0 both.1 outcome h i found out forgets
+        (ap (λ (x : GatewayValue). x.jobs) w_is ∙ ap (λ js. v.jobs ++ js) jobs_are)
     by (lost i found out live t forgets none) =
         lost_adds id branch v w k l k_is s m plans_are now_is (ap (λ (x : GatewayValue). x.opened) w_is) (ap (λ (x : GatewayValue). x.begun) w_is) both.0 both.1 outcome h i found out live forgets
         (ap (λ (x : GatewayValue). x.jobs) w_is ∙ ap (λ js. v.jobs ++ js) none)

@@ -1,6 +1,6 @@
 -- What decides a call concerns its connection; what the events and the breaks at them make of the connections.
 use Rattle.std.specs.Prelude.{◌≡◌, ◌<◌, ◌∷◌, ◌++◌, if◌then◌else◌, ◌&&◌, ◌==◌}
-use Rattle.gateway_theory.specs.lemmas.Names.{ℕ, Bool, true, false, List, [], None, refl, sym, ap, ◌∙◌, zero, suc, Option, Some, arith, subst, nat_tests, not, slice_set, slice_index_or, nat_lt, is_some, is_none, eqb-true, eq-eqb, Outcome, CallId, Occurrence, Opening, Comes, HangUp, Moment, Result, Drain, Closing, Break, call, is_call, is_result_of, Past, ArrivedCall, call_id, is_out, is_shut, due_by, is_undecided, arrivals, now, deciding, count_below, mark_of, counts, marked, is_broken, Step, has_out, kept, step, deadlines_in, ended_by, moment_after, result_on, CallState, call_state, Live, ConnectionValue, is_open_value, CallStays, NothingOf, option_or, CallEvent, LiveStands, CallStands, concerns, decided_by, ReplyEntry, JobValue, is_visible, own, is_break, AllStand, Now, breaks_of, call_step, MayCome, all_after, all_started, is_shut_value, now_after, went, Before, OccursAt, listens, once, Event, History, occurrences, Adds, CoreValue, HasConns, StreamValue, is_heard, or_parts}
+use Rattle.gateway_theory.specs.lemmas.Names.{ℕ, Bool, true, false, List, [], None, refl, sym, ap, ◌∙◌, zero, suc, Option, Some, arith, subst, nat_tests, not, slice_set, slice_index_or, nat_lt, is_some, is_none, eqb-true, eq-eqb, Outcome, CallId, Occurrence, Opening, Comes, HangUp, Moment, Result, Drain, Closing, Break, call, is_call, is_result_of, Past, ArrivedCall, call_id, is_out, is_shut, due_by, is_undecided, arrivals, now, deciding, count_below, mark_of, counts, marked, is_broken, Step, has_out, kept, step, deadlines_in, ended_by, moment_after, result_on, CallState, call_state, Live, ConnectionValue, is_open_value, CallStays, NothingOf, option_or, CallEvent, LiveStands, CallStands, MayLive, concerns, decided, decided_by, ReplyEntry, JobValue, is_visible, own, is_break, AllStand, Now, breaks_of, call_step, MayCome, all_after, all_started, is_shut_value, now_after, went, Before, OccursAt, listens, once, Event, History, occurrences, Adds, CoreValue, HasConns, StreamValue, is_heard, or_parts}
 use Rattle.gateway_theory.specs.lemmas.Cases.{and_true}
 use Rattle.gateway_theory.specs.lemmas.StepLemmas.{back_out, moment_ends}
 use Rattle.gateway_theory.specs.lemmas.LimitLemmas.{same_call}
@@ -325,4 +325,11 @@ module _ (h : History) (v : CoreValue) (n : ℕ) (whole : (v.conns n).broken ≡
   -- one that counts: its branch is out, and its call can be decided
   pub counted_may : (request branch : ℕ) (outcome : Outcome) (l : Live) → ((v.conns n).calls request).live ≡ Some l → has_out ((v.conns n).calls request) branch ≡ true
       → MayAll (event.BranchResult n request branch outcome) h v (n ∷ [])
-  counted_may request branch outcome l l_is out c os all = grind (arith, nat_tests, a, own_alike, outs_stand, not_shut, eq-eqb)
+  counted_may request branch outcome l l_is out c os all =
+      let a = own_alike n os in
+      let s : LiveStands (call_id (v.conns n).number request) l ((v.conns n).calls request).out (marked (own n os)) =
+      subst (λ x. MayLive (call_id (v.conns n).number request) x ((v.conns n).calls request).out (marked (own n os))) l_is ((all.each n).calls request).live_is in
+      let back : is_out (call_id n request) branch (marked os) ≡ true = sym (outs_stand v.now v.conns h.taken h.handed v.waiting os all n request branch) ∙ out in
+      let undecided : decided (call_id n request) (marked os) ≡ None = a.decided_is request ∙ ap (λ d. decided (call_id d request) (marked (own n os))) (sym (all.numbers n)) ∙ s.undecided in
+      let unshut : is_shut n (marked os) ≡ false = a.shut_is ∙ ap (λ d. is_shut d (marked (own n os))) (sym (all.numbers n)) ∙ s.unshut in
+      ((not_shut n os unshut, rw (eq-eqb n n refl, back, undecided, unshut) refl), tt)

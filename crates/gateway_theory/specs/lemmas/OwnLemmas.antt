@@ -1,6 +1,6 @@
 -- What is known of a connection is by what is visible to it.
-use Rattle.std.specs.Prelude.{◌≡◌, ◌<◌, ◌+◌, ◌-◌, ◌∷◌, ◌==◌, ◌&&◌, ◌||◌, if◌then◌else◌}
-use Rattle.gateway_theory.specs.lemmas.Names.{ℕ, zero, suc, min, max, Bool, true, false, List, [], length, map, Option, None, Some, refl, sym, ap, ◌∙◌, subst, arith, nat_tests, filter, not, nat_lt, is_none, option_and_then, option_or, option_map_or, range_with_len, eqb-true, append-nil, filter-append, PlanRecord, CallEvent, Expired, Occurrence, Opening, Comes, HangUp, Moment, Result, Drain, Closing, Break, is_visible, own, without_breaks, ArrivedCall, Mark, Past, answers, arrivals, asked_by, asked_now, began, branch_deadlines, branches, breaks, call, call_id, coming_now, coming_on, counts, crowds, deadline_from, deadlines_out, decided, decides, event_by, how_seen, is_answer_to, is_broken, is_drain, is_drained, is_due, is_out, is_result_of, is_shut, mark_of, marked, moment_of, now, own_event, shuts, started, started_when, undecided_calls, is_of, jobs, jobs_by, jobs_started, came, entry, own_events, queued_entries, record_deadlines}
+use Rattle.std.specs.Prelude.{◌≡◌, ◌<◌, ◌+◌, ◌-◌, ◌∷◌, ◌++◌, ◌==◌, ◌&&◌, ◌||◌, if◌then◌else◌}
+use Rattle.gateway_theory.specs.lemmas.Names.{ℕ, zero, suc, min, max, Bool, true, false, List, [], length, map, Option, None, Some, refl, sym, ap, ◌∙◌, subst, arith, nat_tests, filter, not, nat_lt, is_none, is_some, option_and_then, option_map, option_or, option_map_or, range_with_len, eqb-true, append-nil, filter-append, PlanRecord, CallEvent, Expired, Occurrence, Opening, Comes, HangUp, Moment, Result, Drain, Closing, Break, is_visible, own, without_breaks, ArrivedCall, Mark, Past, answers, arrivals, asked_by, asked_now, began, branch_deadlines, branches, breaks, call, call_id, coming_now, coming_on, counts, crowds, deadline_from, deadlines_out, decided, decides, event_by, how_seen, is_answer_to, is_broken, is_drain, is_drained, is_due, is_out, is_result_of, is_shut, mark_of, marked, moment_of, now, own_event, shuts, started, started_when, undecided_calls, is_of, JobValue, job_of, jobs, jobs_by, jobs_started, came, entry, own_events, queued_entries, record_deadlines}
 use Rattle.gateway_model.specs.declared.call_event.CallEvent.TheVariants.{Drained}
 use Rattle.gateway_theory.specs.lemmas.Cases.{and_false, and_true, or_false, or_none}
 use Rattle.gateway_theory.specs.lemmas.Frame.{not_started}
@@ -144,7 +144,22 @@ deadlines_same : (c : ℕ) (p q : Past) → Alike c p q → (k : ℕ) (m : Mark)
 deadlines_same c p q h k m = grind (arith, nat_tests, all_deadlines)
 
 same_more : (c : ℕ) (p q : Past) (m : Mark) → Alike c p q → Alike c (m ∷ p) (m ∷ q)
-same_more c p q m h = search (arith, nat_tests, call_same, began_same, answers_same, out_same, when_same, decided_same, events_same, deadlines_same)
+same_more c p q m h = record {
+  now_is = λ i. max (h.now_is i) (moment_of m.what);
+  drained_is = λ i. is_drain m.what || h.drained_is i;
+  shut_is = λ i. shuts c m.what || h.shut_is i;
+  broken_is = λ i. breaks c m.what || h.broken_is i;
+  arrivals_are = λ i. if is_some (coming_on c m.what (h.broken_is i)) then suc (h.arrivals_are i) else h.arrivals_are i;
+  call_is = λ k. call_same c p q h k m;
+  began_is = λ k. began_same c p q h k m;
+  answers_are = λ k. answers_same c p q h k m;
+  out_is = λ k i. out_same c p q h k i m;
+  when_is = λ k i lt. when_same c p q h k i m;
+  decided_is = λ k. decided_same c p q h k m;
+  events_are = λ k. events_same c p q h k m;
+  deadlines_are = λ k. deadlines_same c p q h k m;
+  came_is = λ k i. option_or (h.came_is k i) (option_map (λ x. (x, m.crowded)) (if h.arrivals_are i == k then coming_on c m.what (h.broken_is i) else None));
+}
 
 -- ---- a mark more that is not visible
 
@@ -250,7 +265,11 @@ own_seen c k i os = seen_same c (marked os) (marked (own c os)) (own_alike c os)
 -- ---- what starts
 
 jobs_like : (c k : ℕ) (p q : Past) (m : Mark) → Alike c p q → jobs_started (call_id c k) m p ≡ jobs_started (call_id c k) m q
-jobs_like c k p q m h = search arith
+jobs_like c k p q m h = λ i.
+    option_map_or (λ x. map (λ b. job_of (call_id c k) b x (h.now_is i)) (range_with_len (before i) (started_then c p q h k m i - before i))) (call_same c p q h k m i) []
+  where
+    before : started (call_id c k) p ≡ started (call_id c k) q
+    before = λ i. started_by (h.began_is k i) (h.call_is k i) (h.answers_are k i)
 
 by_like : (c : ℕ) (p q : Past) (m : Mark) (o : Occurrence) → is_visible c o ≡ true → Alike c p q → jobs_by o m p ≡ jobs_by o m q
 by_like c p q m (Comes d x) v h = subst (λ (n : ℕ). jobs_started (call_id n (arrivals n p)) m p ≡ jobs_started (call_id n (arrivals n q)) m q) (sym (eqb-true d c v))
@@ -281,12 +300,32 @@ unbroken_queue c os e = own_queue c os ∙ sym (ap (λ xs. queued_entries c (mar
 -- ---- all that starts
 
 unseen_jobs : (c : ℕ) (o : Occurrence) (m : Mark) (past : Past) → is_visible c o ≡ false → filter (is_of c) (jobs_by o m past) ≡ []
-unseen_jobs c o m past is = grind (arith, nat_tests, none_by)
+unseen_jobs c (Comes d x) m past e = none_by c (Comes d x) m past e
+unseen_jobs c (Result id i r) m past e = none_by c (Result id i r) m past e
+unseen_jobs c Opening m past e = refl
+unseen_jobs c (HangUp d) m past e = refl
+unseen_jobs c (Moment t) m past e = refl
+unseen_jobs c Drain m past e = refl
+unseen_jobs c (Closing d) m past e = refl
+unseen_jobs c (Break d) m past e = refl
 
 -- the jobs of a connection are by what is visible to it
 pub own_started : (c : ℕ) (os : List Occurrence) → filter (is_of c) (jobs (marked os)) ≡ filter (is_of c) (jobs (marked (own c os)))
 own_started c [] = refl
-own_started c (o ∷ os) = grind (arith, nat_tests, own_started c os, filter-append, own_jobs, unseen_jobs, append-nil)
+own_started c (o ∷ os) = by (is_visible c o) refl (own_started c os)
+  where
+    now : List JobValue
+    now = jobs_by o (mark_of (marked os) o) (marked os)
+
+    by : (b : Bool) → is_visible c o ≡ b → filter (is_of c) (jobs (marked os)) ≡ filter (is_of c) (jobs (marked (own c os)))
+        → filter (is_of c) (jobs (marked os) ++ now) ≡ filter (is_of c) (jobs (marked (if b then o ∷ own c os else own c os)))
+    by true v before =
+        filter-append (is_of c) (jobs (marked os)) now ∙ ap (λ xs. xs ++ filter (is_of c) now) before
+        ∙ ap (λ js. filter (is_of c) (jobs (marked (own c os))) ++ filter (is_of c) js) (own_jobs c o os v)
+        ∙ sym (filter-append (is_of c) (jobs (marked (own c os))) (jobs_by o (mark_of (marked (own c os)) o) (marked (own c os))))
+    by false v before =
+        filter-append (is_of c) (jobs (marked os)) now ∙ ap (λ xs. filter (is_of c) (jobs (marked os)) ++ xs) (unseen_jobs c o (mark_of (marked os) o) (marked os) v)
+        ∙ append-nil (filter (is_of c) (jobs (marked os))) ∙ before
 
 pub unbroken_started : (c : ℕ) (os : List Occurrence) → is_broken c (marked os) ≡ false
     → filter (is_of c) (jobs (marked os)) ≡ filter (is_of c) (jobs (marked (without_breaks os)))

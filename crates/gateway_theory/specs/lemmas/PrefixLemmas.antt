@@ -4,7 +4,7 @@ use Rattle.gateway_theory.specs.lemmas.Names.{ℕ, Bool, true, false, List, [], 
 use Rattle.gateway_theory.specs.lemmas.Frame.{call_same}
 use Rattle.gateway_theory.specs.lemmas.ShutConns.{shut_jobs}
 use Rattle.gateway_theory.specs.lemmas.OwnLemmas.{none_if, own_alike, own_without, unbroken_queue, unbroken_started}
-use Rattle.gateway_theory.specs.lemmas.PastLemmas.{prefix-refl, prefix-trans, queued_entries_grow, prefix-flat_map, prefix-map}
+use Rattle.gateway_theory.specs.lemmas.PastLemmas.{call_stays, prefix-refl, prefix-trans, queued_entries_grow, prefix-flat_map, prefix-map}
 use Rattle.gateway_model.specs.declared.reply_bytes.ReplyBytes.{ReplyBytes}
 use Rattle.gateway_model.specs.Run.{bytes_of}
 
@@ -117,13 +117,21 @@ call_within id a [] e = e
 call_within id a (o ∷ os) e = by_past (is_broken id.conn (marked os)) refl (call_within id a os)
   where
     stays : (b : Bool) → call id (marked (without_breaks os)) ≡ Some a → call id (marked (if not b then o ∷ without_breaks os else without_breaks os)) ≡ Some a
-    stays b is = grind (arith, nat_tests)
+    stays true h = h
+    stays false h = call_stays id (mark_of (marked (without_breaks os)) o) (marked (without_breaks os)) a h
 
     still : Still id.conn (mark_of (marked os) o) (marked os) → call id (marked os) ≡ Some a
     still s = sym (call_same id (mark_of (marked os) o) (marked os) (none_if (arrivals id.conn (marked os) == id.request) (coming_on id.conn o (is_broken id.conn (marked os))) s.none_comes)) ∙ e
 
     broke_now : (x : Occurrence) → breaks id.conn x ≡ true → Still id.conn (mark_of (marked os) x) (marked os)
-    broke_now x is = grind (arith, nat_tests)
+    broke_now (Break d) b = at_break id.conn d (marked os)
+    broke_now Opening b = absurd cc
+    broke_now (Comes d x) b = absurd cc
+    broke_now (HangUp d) b = absurd cc
+    broke_now (Moment t) b = absurd cc
+    broke_now (Result of i r) b = absurd cc
+    broke_now Drain b = absurd cc
+    broke_now (Closing d) b = absurd cc
 
     whole : is_broken id.conn (marked (o ∷ os)) ≡ false → call id (marked (without_breaks (o ∷ os))) ≡ Some a
     whole off = (own_alike id.conn (without_breaks (o ∷ os))).call_is id.request
@@ -131,10 +139,12 @@ call_within id a (o ∷ os) e = by_past (is_broken id.conn (marked os)) refl (ca
 
     by_now : (b : Bool) → breaks id.conn o ≡ b → is_broken id.conn (marked os) ≡ false → (call id (marked os) ≡ Some a → call id (marked (without_breaks os)) ≡ Some a)
         → call id (marked (without_breaks (o ∷ os))) ≡ Some a
-    by_now b is also each = grind (arith, nat_tests, stays, still, broke_now, whole)
+    by_now true b off h = stays (is_break o) (h (still (broke_now o b)))
+    by_now false b off h = whole (ap (λ x. x || is_broken id.conn (marked os)) b ∙ off)
 
     by_past : (b : Bool) → is_broken id.conn (marked os) ≡ b → (call id (marked os) ≡ Some a → call id (marked (without_breaks os)) ≡ Some a) → call id (marked (without_breaks (o ∷ os))) ≡ Some a
-    by_past b is each = search (arith, nat_tests, stays, still, after_break, by_now)
+    by_past true broke h = stays (is_break o) (h (still (after_break id.conn (mark_of (marked os) o) (marked os) broke)))
+    by_past false off h = by_now (breaks id.conn o) refl off h
 
 -- ---- a connection that is shut by the events alone
 

@@ -1,10 +1,10 @@
 -- What the calls of the gateway tell.
 use Rattle.std.specs.Prelude.{◌≡◌, ◌≤◌, ◌++◌, ◌&&◌, ◌||◌, if◌then◌else◌}
 use Rattle.gateway_theory.specs.lemmas.Names.{ℕ, Bool, true, false, List, [], length, None, Some, Err, refl, sym, ap, ◌∙◌, subst, arith, inl, inr, Option, nat_tests, IfOk, OnOk, nat_lt, not, take, ⊤, is_none, is_some, option_map, slice_index_or, lt-ltb, append-nil, HasReadTo, PlanRecord, arrival_of, JobValue, Request, StepFault, is_waiting, if_open, is_broken_conn, call_in, GatewayValue, conn_of, shown, HeldConnection, CallState, Live, call_state, call_at, ConnectionValue, TakesBytes, arriving_in, begins_call, broke, dropped, hears, most_begun, not_fed, read, unread, Forgets, TakesResult, forgotten, has_out_in, left_of, lost, lost_held, result_in, settled, settled_held, stays, stepped_held, unknown, IsServing, NotListening, TakesSome, TellsStep, WouldBegin, Breaks, NoneSpent, Feeds, Moves, absent, there, HangsUpAt, Results, All-get_or, filter_passes, Outcome, History, is_whole, own, Past, call_id, how_seen, marked, record_of, Placed, occurrences, CallId, Counted, Late, Unknown, seen_by, CallStands, MayLive, is_live, is_spent, has_out, IsFound, kept_at, Took, IsSeen, IsWanted, TellsTook}
-use Rattle.std.proofs.Common.{Result}
-use Rattle.gateway_theory.specs.declared.fault.StepFault.TheVariants.{Exhausted, Gone}
+use Rattle.std.proofs.Common.{Ok, Result}
+use Rattle.gateway_theory.specs.declared.fault.StepFault.TheVariants.{Exhausted, Gone, Memory}
 use Rattle.gateway_theory.specs.lemmas.StoreLemmas.{some_same, call_found}
-use Rattle.gateway_theory.specs.Held.{came}
+use Rattle.gateway_theory.specs.Held.{HangsUp, came, hung, is_listening, unnoticed}
 use Rattle.gateway_theory.specs.lemmas.Conns.{if_open_still, absent_value, there_value}
 use Rattle.gateway_theory.specs.lemmas.HeldSteps.{hears_parts, like_settled}
 use Rattle.gateway_theory.specs.lemmas.Turns.{broken_at}
@@ -24,6 +24,21 @@ use Rattle.gateway_theory.specs.lemmas.ServingSteps.{left_some, live_goes}
 pub not_heard : (n : ℕ) (v : GatewayValue) (k : HeldConnection) → conn_of n v ≡ Some k → NotListening n v → hears k ≡ false
 not_heard n v k k_is off = grind arith
 
+deaf_kept : (n : ℕ) (v : GatewayValue) (k : HeldConnection) → conn_of n v ≡ Some k → hears k ≡ false → NotListening n v
+deaf_kept n v k k_is off l l_is = by k.closed refl (sym (ap if_open k_is) ∙ l_is)
+  where
+    by : (b : Bool) → k.closed ≡ b → if_open (Some k) ≡ Some l → is_listening l ≡ false
+    by true shut e = absurd (let clash : None ≡ Some l = sym (ap (λ b. if b then None else Some k) shut) ∙ e in cc)
+    by false still e = ap is_listening (sym (some_same (sym (if_open_still k still) ∙ e))) ∙ sym (ap (λ b. not b && is_listening k) still) ∙ off
+
+none_both : (b : Bool) → (b && false) ≡ false
+none_both true = refl
+none_both false = refl
+
+-- .. and one that is heard is whole
+whole_now : (k : HeldConnection) → hears k ≡ true → (not k.closed && k.broken) ≡ false
+whole_now k on = ap (λ b. not k.closed && b) (hears_parts k on).1 ∙ none_both (not k.closed)
+
 -- whether the connection that was kept is broken then
 pub broken_now : (n : ℕ) (v w : GatewayValue) (k l : HeldConnection) → conn_of n v ≡ Some k → Moves n (Some l) v w → w.opened ≡ v.opened → IsServing v → is_broken_conn n w ≡ (not l.closed && l.broken)
 broken_now n v w k l k_is m opened_is s =
@@ -31,7 +46,7 @@ broken_now n v w k l k_is m opened_is s =
 
 -- ---- bytes
 
-module _ (plans : List PlanRecord) (moment : ℕ) (drained : Bool) (bytes : List ℕ) (begun : ℕ) (k : HeldConnection) (then_begun : ℕ) (l : HeldConnection) (jobs : List JobValue) (result : Result ℕ StepFault) where
+module _ {plans : List PlanRecord} {moment : ℕ} {drained : Bool} {bytes : List ℕ} {begun : ℕ} {k : HeldConnection} {then_begun : ℕ} {l : HeldConnection} {jobs : List JobValue} {result : Result ℕ StepFault} where
   gone_fed : TakesBytes plans moment drained bytes begun k then_begun l jobs result → result ≡ Err Gone → (hears k ≡ false) × (l ≡ k) × (jobs ≡ []) × (then_begun ≡ begun)
   gone_fed fact is = grind (arith, nat_tests)
 
@@ -76,15 +91,30 @@ module _ (plans : List PlanRecord) (moment : ℕ) (drained : Bool) (bytes : List
 module _ (n : ℕ) (bytes : List ℕ) (v w : GatewayValue) (result : Result ℕ StepFault) (s : IsServing v) where
   pub fed_tells : Feeds n bytes v w result → TellsStep n v w result
   fed_tells (absent none r w_is) = grind arith
-  fed_tells (there k l jobs k_is t m w_is) = search (arith, nat_tests, gone_fed, deaf_fed, not_heard, append-nil, broke_fed, most_fed, heard_fed, broken_now, hears_parts)
+  fed_tells (there k l jobs k_is t m w_is) = record {
+    gone = (λ e. deaf_kept n v k k_is (gone_fed t e).0, λ off. deaf_fed t (not_heard n v k k_is off));
+    unchanged = λ e.
+        let g = gone_fed t e in
+        w_is ∙ (λ i. record v { conns = m.same (ap (λ x. Some x) g.1 ∙ sym k_is) i; jobs = (ap (λ js. v.jobs ++ js) g.2 ∙ append-nil v.jobs) i; begun = g.3 i });
+    broke = λ e. is_now ∙ broke_fed t Memory (λ x. absurd cc) e;
+    exhausted = λ e. (is_now ∙ broke_fed t Exhausted (λ x. absurd cc) e, most_fed t e);
+    unbroken = whole result (heard_fed t);
+  }
+    where
+      is_now : is_broken_conn n w ≡ (not l.closed && l.broken)
+      is_now = broken_now n v w k l k_is m (ap (λ (x : GatewayValue). x.opened) w_is) s
+
+      whole : (r : Result ℕ StepFault) → OnOk r (hears l ≡ true) → OnOk r (is_broken_conn n w ≡ false)
+      whole (Ok x) on = is_now ∙ whole_now l on
+      whole (Err x) on = tt
 
   pub fed_begins : Feeds n bytes v w result → result ≡ Err Exhausted → WouldBegin n bytes v
   fed_begins (absent none r w_is) e = absurd (let clash = sym r ∙ e in cc)
-  fed_begins (there k l jobs k_is t m w_is) e = begins_fed v.plans v.moment v.drained bytes v.begun k w.begun l jobs result v n refl refl refl k_is t e
+  fed_begins (there k l jobs k_is t m w_is) e = begins_fed v n refl refl refl k_is t e
 
   pub fed_takes : Feeds n bytes v w result → IfOk result (TakesSome (length bytes))
   fed_takes (absent none r w_is) = subst (λ x. IfOk x (TakesSome (length bytes))) (sym r) tt
-  fed_takes (there k l jobs k_is t m w_is) = some_fed v.plans v.moment v.drained bytes v.begun k w.begun l jobs result (s.each n k k_is).settled t
+  fed_takes (there k l jobs k_is t m w_is) = some_fed (s.each n k k_is).settled t
 
   pub fed_listens : Feeds n bytes v w result → OnOk result (NotListening n w → ⊥)
   fed_listens fact = grind (arith, nat_tests)
@@ -93,7 +123,33 @@ module _ (n : ℕ) (bytes : List ℕ) (v w : GatewayValue) (result : Result ℕ 
 
 pub hung_tells : (n : ℕ) (v w : GatewayValue) (result : Result ⊤ StepFault) → HangsUpAt n v w result → IsServing v → TellsStep n v w result
 hung_tells n v w result (absent none r w_is) s = grind arith
-hung_tells n v w result (there k l k_is t m w_is) s = search (arith, nat_tests, broken_now, not_heard, hears_parts)
+hung_tells n v w result (there k l k_is t m w_is) s = by t
+  where
+    is_now : is_broken_conn n w ≡ (not l.closed && l.broken)
+    is_now = broken_now n v w k l k_is m (ap (λ (x : GatewayValue). x.opened) w_is) s
+
+    by : HangsUp k l result → TellsStep n v w result
+    by (unnoticed off r l_is) = record {
+      gone = (λ e. deaf_kept n v k k_is off, λ x. r);
+      unchanged = λ e. w_is ∙ ap (λ cs. record v { conns = cs }) (m.same (ap (λ x. Some x) l_is ∙ sym k_is));
+      broke = λ e. absurd (let clash = sym r ∙ e in cc);
+      exhausted = λ e. absurd (let clash = sym r ∙ e in cc);
+      unbroken = subst (λ x. OnOk x (is_broken_conn n w ≡ false)) (sym r) tt;
+    }
+    by (hung on r l_is) = record {
+      gone = (λ e. absurd (let clash = sym r ∙ e in cc), λ off. absurd (let clash : true ≡ false = sym on ∙ not_heard n v k k_is off in cc));
+      unchanged = λ e. absurd (let clash = sym r ∙ e in cc);
+      broke = λ e. absurd (let clash = sym r ∙ e in cc);
+      exhausted = λ e. absurd (let clash = sym r ∙ e in cc);
+      unbroken = subst (λ x. OnOk x (is_broken_conn n w ≡ false)) (sym r) (is_now ∙ ap (λ b. not l.closed && b) (ap (λ (x : HeldConnection). x.broken) l_is ∙ (hears_parts k on).1) ∙ none_both (not l.closed));
+    }
+    by (broke on ends r l_is) = record {
+      gone = (λ e. absurd (let clash = sym r ∙ e in cc), λ off. absurd (let clash : true ≡ false = sym on ∙ not_heard n v k k_is off in cc));
+      unchanged = λ e. absurd (let clash = sym r ∙ e in cc);
+      broke = λ e. is_now ∙ ap (λ (x : HeldConnection). not x.closed && x.broken) l_is ∙ ap (λ b. not b && true) (hears_parts k on).0;
+      exhausted = λ e. absurd (let clash = sym r ∙ e in cc);
+      unbroken = subst (λ x. OnOk x (is_broken_conn n w ≡ false)) (sym r) tt;
+    }
 
 pub hung_exhausted : (n : ℕ) (v w : GatewayValue) (result : Result ⊤ StepFault) → HangsUpAt n v w result → result ≡ Err Exhausted → ⊥
 hung_exhausted n v w result fact is = grind (arith, nat_tests)
@@ -178,11 +234,8 @@ one_breaks n v w k l k_is m opened_is s whole still broke_now = (
   n,
   ap (λ x. broken_at x n (conn_of n w)) opened_is ∙ ap (broken_at v.opened n) (m.here ∙ ap (λ b. if b then None else Some l) (ap (λ b. b && not (has_out_in l)) still))
       ∙ rw (lt-ltb n v.opened (s.each n k k_is).born, still, broke_now) refl,
-  ap (broken_at v.opened n) k_is ∙ ap (λ b. (nat_lt n v.opened && not k.closed) && b) whole ∙ never (nat_lt n v.opened && not k.closed),
+  ap (broken_at v.opened n) k_is ∙ ap (λ b. (nat_lt n v.opened && not k.closed) && b) whole ∙ none_both (nat_lt n v.opened && not k.closed),
 )
-  where
-    never : (b : Bool) → (b && false) ≡ false
-    never b = grind (arith, nat_tests)
 
 forgets_broken : (id : CallId) (k l : HeldConnection) → Forgets id k l → (l.broken ≡ k.broken) × (l.closed ≡ k.closed)
 forgets_broken id k l (stays spent is) = (ap (λ (x : HeldConnection). x.broken) is, ap (λ (x : HeldConnection). x.closed) is)

@@ -1,23 +1,19 @@
 use Rattle.std.proofs.Common.{◌∙◌, Some, ap, refl}
 use Rattle.std.proofs.lemmas.Result.{IfOk-weaker}
-use Rattle.std.specs.Option.{option_copied}
-use Rattle.access_log.specs.Line.{log_document, log_line}
-use Rattle.access_log.proofs.MembersLemmas.{text_of}
+use Rattle.access_log.specs.Line.{log_line}
 use Rattle.access_log.proofs.line.log_line.Goals as goal
 
 pub returns-clause-text : goal.returns-clause-text
 unfolding log_line
 returns-clause-text c =
-    let has = c.in_ok-put_number-5.ensures _ (c.in_ok-put_number-4.ensures _ (c.in_ok-put_number-3.ensures _
-    (c.in_ok-put_text_or_null-4.ensures _ (
-    c.in_ok-put_number-2.ensures _ (c.in_ok-put_text_or_null-3.ensures _ (c.in_ok-put_number_or_null.ensures _
-    (c.in_ok-put_text.ensures _ (
-    c.in_ok-put_number.ensures _ (c.in_ok-put_text_or_null-2.ensures _
-    (c.in_ok-put_text_or_null.ensures _ c.in_ok-out.ensures)))))))))) in
-    IfOk-weaker c.finish.result _ _
-    (λ line said. text_of _ _ (log_document c.args.time c.args.moment c.args.worker c.args.id c.args.entry.now
-    (option_copied c.args.request_id)) _ has said
-    (rw (
+    IfOk-weaker c.object_text.result _ _
+    (λ line said.
+    rw (
+      c.of_text.ensures,
+      c.of_text-2.ensures,
+      c.of_number.ensures,
+      c.of_text-3.ensures,
+      c.of_text-4.ensures,
       c.branch-entry.ensures,
       c.code_name.ensures,
       c.number.ensures,
@@ -28,20 +24,19 @@ returns-clause-text c =
       c.from.ensures,
       c.status.ensures,
       c.from-2.ensures,
-    ) refl))
-    c.finish.ensures.text
+    ) at said)
+    c.object_text.ensures.text
 
 pub returns-clause-reads_back : goal.returns-clause-reads_back
 returns-clause-reads_back c =
-    let has = c.in_ok-put_number-5.ensures _ (c.in_ok-put_number-4.ensures _ (c.in_ok-put_number-3.ensures _
-    (c.in_ok-put_text_or_null-4.ensures _ (
-    c.in_ok-put_number-2.ensures _ (c.in_ok-put_text_or_null-3.ensures _ (c.in_ok-put_number_or_null.ensures _
-    (c.in_ok-put_text.ensures _ (
-    c.in_ok-put_number.ensures _ (c.in_ok-put_text_or_null-2.ensures _
-    (c.in_ok-put_text_or_null.ensures _ c.in_ok-out.ensures)))))))))) in
-    IfOk-weaker c.finish.result _ _
-    (λ line said. said _ has refl ∙ ap Some
+    IfOk-weaker c.object_text.result _ _
+    (λ line said. said refl ∙ ap Some
     (rw (
+      c.of_text.ensures,
+      c.of_text-2.ensures,
+      c.of_number.ensures,
+      c.of_text-3.ensures,
+      c.of_text-4.ensures,
       c.branch-entry.ensures,
       c.code_name.ensures,
       c.number.ensures,
@@ -53,4 +48,4 @@ returns-clause-reads_back c =
       c.status.ensures,
       c.from-2.ensures,
     ) refl))
-    c.finish.ensures.reads_back
+    c.object_text.ensures.reads_back

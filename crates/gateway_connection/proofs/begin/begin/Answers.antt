@@ -1,5 +1,5 @@
-use Rattle.gateway_connection.specs.lemmas.Names.{◌≡◌, arith, ap, sym, ◌∙◌, length, min, subst, Some, arc_value, PlanRecord, IsKept, HasGone, live_value, ArrivedCall}
-use Rattle.gateway_connection.proofs.GroupLemmas.{begun_few, begun_kept, is_begun}
+use Rattle.gateway_connection.specs.lemmas.Names.{◌≡◌, arith, ap, sym, ◌∙◌, length, min, subst, Some, arc_value, PlanRecord, IsKept, HasGone, live_value, ArrivedCall, deadline_from, map, range_with_len}
+use Rattle.gateway_connection.proofs.GroupLemmas.{begun_kept, is_begun}
 use Rattle.gateway_connection.proofs.begin.begin.Goals as goal
 
 pub invariant_of-call : goal.invariant_of-call
@@ -10,12 +10,13 @@ invariant_of-call c =
     let n : length c.branches-count.result.now ≡ length a.plan.branches =
     ap length c.branches-count.ensures.branches ∙ ap (λ (p : PlanRecord). length p.branches) (c.deref.ensures ∙ plan) in
     let limit : c.limit.result ≡ a.plan.limit = c.limit.ensures.limit ∙ ap (λ (p : PlanRecord). p.limit) (c.deref-2.ensures ∙ plan) in
+    let times = c.in_ok-deadlines.ensures.items ∙ ap (λ (p : PlanRecord). map (deadline_from c.args.moment p) (range_with_len 0 c.min-started.result)) (c.deref-3.ensures ∙ plan) in
     let gone : HasGone c.args.id a (length c.branches-count.result.now) c.give.new.group c.in_ok-first.first.items =
     subst (λ m. HasGone c.args.id a m c.give.new.group c.in_ok-first.first.items) (sym n)
     (subst (λ (x : ArrivedCall). HasGone c.args.id x (length x.plan.branches) c.give.new.group c.in_ok-first.first.items) asked c.in_ok-first.ensures) in
     subst (λ (x : ArrivedCall). IsKept c.args.id c.in_ok-out.out.items c.give.new.group (Some (live_value x c.in_ok-events.events.items c.in_ok-deadlines.deadlines.items))) (sym asked)
-    (begun_kept c.args.moment c.args.id a (length c.branches-count.result.now) c.min.result c.in_ok-out.out.items c.give.new.group c.in_ok-first.first.items c.in_ok-events.events.items c.in_ok-deadlines.deadlines.items n
-    (c.min.ensures ∙ ap (λ k. min (length c.branches-count.result.now) k) limit) c.in_ok-out.ensures gone c.in_ok-events.ensures.items c.in_ok-deadlines.ensures.items)
+    (begun_kept c.args.moment c.args.id a (length c.branches-count.result.now) c.min-started.result c.in_ok-out.out.items c.give.new.group c.in_ok-first.first.items c.in_ok-events.events.items c.in_ok-deadlines.deadlines.items n
+    (c.min-started.ensures ∙ ap (λ k. min (length c.branches-count.result.now) k) limit) c.in_ok-out.ensures gone c.in_ok-events.ensures.items times)
 
 pub returns : goal.returns
 returns c =
@@ -25,16 +26,24 @@ returns c =
     let n : length c.branches-count.result.now ≡ length a.plan.branches =
     ap length c.branches-count.ensures.branches ∙ ap (λ (p : PlanRecord). length p.branches) (c.deref.ensures ∙ plan) in
     let limit : c.limit.result ≡ a.plan.limit = c.limit.ensures.limit ∙ ap (λ (p : PlanRecord). p.limit) (c.deref-2.ensures ∙ plan) in
+    let times = c.in_ok-deadlines.ensures.items ∙ ap (λ (p : PlanRecord). map (deadline_from c.args.moment p) (range_with_len 0 c.min-started.result)) (c.deref-3.ensures ∙ plan) in
     let gone : HasGone c.args.id a (length c.branches-count.result.now) c.give.new.group c.in_ok-first.first.items =
     subst (λ m. HasGone c.args.id a m c.give.new.group c.in_ok-first.first.items) (sym n)
     (subst (λ (x : ArrivedCall). HasGone c.args.id x (length x.plan.branches) c.give.new.group c.in_ok-first.first.items) asked c.in_ok-first.ensures) in
-    is_begun c.args.moment c.args.id a (arc_value c.in_ok-asked.asked) (length c.branches-count.result.now) c.min.result c.in_ok-out.out.items c.give.new.group c.in_ok-first.first.items c.in_ok-events.events.items c.in_ok-deadlines.deadlines.items
-    asked n (c.min.ensures ∙ ap (λ k. min (length c.branches-count.result.now) k) limit) c.in_ok-out.ensures gone c.in_ok-events.ensures.items c.in_ok-deadlines.ensures.items
+    is_begun c.args.moment c.args.id a (arc_value c.in_ok-asked.asked) (length c.branches-count.result.now) c.min-started.result c.in_ok-out.out.items c.give.new.group c.in_ok-first.first.items c.in_ok-events.events.items c.in_ok-deadlines.deadlines.items
+    asked n (c.min-started.ensures ∙ ap (λ k. min (length c.branches-count.result.now) k) limit) c.in_ok-out.ensures gone c.in_ok-events.ensures.items times
 
 pub first_deadlines-requires-clause-few : goal.first_deadlines-requires-clause-few
 first_deadlines-requires-clause-few c =
-    let few : length c.in_ok-first.first.items ≡ min (length (arc_value c.in_ok-asked.asked).plan.branches) (arc_value c.in_ok-asked.asked).plan.limit =
-    begun_few c.args.id (arc_value c.in_ok-asked.asked) (length (arc_value c.in_ok-asked.asked).plan.branches) c.give.new.group c.in_ok-first.first.items c.in_ok-first.ensures in
-    let n : length c.branches-count.result.now ≡ length (arc_value c.in_ok-asked.asked).plan.branches =
-    ap length c.branches-count.ensures.branches ∙ ap (λ (p : PlanRecord). length p.branches) (c.deref.ensures ∙ c.in_ok-plan.ensures ∙ ap (λ (x : ArrivedCall). x.plan) (c.asked.view_is ∙ sym c.in_ok-asked.ensures.ok)) in
-    omega (arith, few, n)
+    omega (arith, c.min-started.ensures, ap length c.branches-count.ensures.branches, ap (λ (p : PlanRecord). length p.branches) (c.deref.ensures ∙ sym c.deref-3.ensures))
+
+pub invariant_of-live : goal.invariant_of-live
+invariant_of-live c =
+    let plan = c.in_ok-plan.ensures ∙ ap (λ (x : ArrivedCall). x.plan) (c.asked.view_is ∙ sym c.in_ok-asked.ensures.ok) in
+    let some = c.branches-count.ensures.lawful.some in
+    let view = ap (λ (p : PlanRecord). length p.branches) c.deref.ensures in (
+      plan,
+      omega (arith, some, view, ap length c.in_ok-events.ensures.items),
+      omega (arith, c.in_ok-events.ensures.capacity, ap length c.branches-count.ensures.branches, view),
+      omega (arith, c.in_ok-deadlines.ensures.room, ap (λ (p : PlanRecord). length p.branches) c.deref-3.ensures),
+    )

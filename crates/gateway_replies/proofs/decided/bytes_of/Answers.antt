@@ -1,6 +1,6 @@
 use Rattle.gateway_replies.proofs.Names.{◌≡◌, ◌∙◌, Some, None, append-nil, inl, inr, refl, subst, sym, KeepsOthers, CallsAtMost, LosesHook, called_on, ending_for, err_if}
 use Rattle.gateway_replies.proofs.ContextLemmas.{without_others}
-use Rattle.gateway_replies.proofs.HookLemmas.{gives_none, gives_told, ok_if}
+use Rattle.gateway_replies.proofs.HookLemmas.{bytes_told, gives_none, gives_told, ok_if}
 use Rattle.gateway_replies.proofs.decided.bytes_of.Goals as goal
 
 pub returns-in-Some-clause-others : goal.returns-in-Some-clause-others
@@ -42,3 +42,6 @@ returns-in_err-ending-clause-others g c = err_if c.from_residual.result (record 
 
 pub returns-in_err-ending-clause-once : goal.returns-in_err-ending-clause-once
 returns-in_err-ending-clause-once g c = err_if c.from_residual.result (inl refl)
+
+pub returns-in-Some-clause-bytes : goal.returns-in-Some-clause-bytes
+returns-in-Some-clause-bytes g c = bytes_told c.args.call.now c.in-Some.ending c.end.result (sym c.in-Some.is ∙ c.in_ok-ending.ensures) c.end.ensures.duty

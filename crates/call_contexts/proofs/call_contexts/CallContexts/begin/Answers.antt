@@ -1,4 +1,4 @@
-use Rattle.call_contexts.proofs.Names.{◌∙◌, ◌++◌, ◌∷◌, [], ap, refl, sym, ◌≡◌, true, is_among, WithHooks, call_for, is_conn, begun, with_call, let_go}
+use Rattle.call_contexts.proofs.Names.{◌∙◌, ◌++◌, ◌∷◌, [], ap, refl, sym, ◌≡◌, true, is_among, WithHooks, call_for, is_conn, begun, with_call, let_go, Life}
 use Rattle.call_contexts.proofs.Seeing.{conn_among}
 use Rattle.call_contexts.proofs.Making.{call_free, call_unmade}
 use Rattle.call_contexts.proofs.Beginning.{begun_rises, sound_begun, seen_begun, begun_unheld, is_new, sound_alike, seen_alike, handed_back}
@@ -22,9 +22,15 @@ returns-in_default-clause-unchanged g c =
 pub invariant_of-self-in-Ok-keep : goal.invariant_of-self-in-Ok-keep
 invariant_of-self-in-Ok-keep g c =
     let s = c.self.invariant.sound in
+    let l : Life = record { id = c.args.id.now; ctx = c.in-Ok.made.0; holder = c.in-Ok.made.1; conn = c.args.conn; deadline = c.args.deadline; hook = c.in-Ok-keep.hook; twigs = c.new-twigs.result } in
     let there : is_among c.args.conn c.self.inside.conns.items ≡ true = sym (conn_among c.self.inside.tree.slots c.self.inside.conns.items c.args.conn) ∙ ap (λ (v : WithHooks _ _ _). is_conn c.args.conn v.standing.conns) c.self.view_is ∙ c.requires.known in
     let fresh = not_begun c.self.inside.tree.slots c.args.id.now c.self.inside.calls.items (ap (λ (v : WithHooks _ _ _). call_for c.args.id.now v.standing.calls) c.self.view_is ∙ c.requires.named) in
-    rw (c.push_reserved.ensures.items, c.reserve.ensures.items) (record { sound = sound_begun s.laws s (record { id = c.args.id.now; ctx = c.in-Ok.made.0; holder = c.in-Ok.made.1; conn = c.args.conn; deadline = c.args.deadline; hook = c.in-Ok-keep.hook; twigs = c.new-twigs.result }) c.new-twigs.ensures c.args.now c.args.request_id c.in-Ok.ensures.held c.make.new.tree there (c.in-Ok.ensures.made s.past s.tree_is) c.args.hook c.keep.new.hooks (c.in-Ok-keep.ensures.hooked s.hooks s.hooks_are) (c.in-Ok-keep.ensures.number s.hooks s.hooks_are); rising = begun_rises s.laws s (record { id = c.args.id.now; ctx = c.in-Ok.made.0; holder = c.in-Ok.made.1; conn = c.args.conn; deadline = c.args.deadline; hook = c.in-Ok-keep.hook; twigs = c.new-twigs.result }) c.new-twigs.ensures c.args.now c.args.request_id c.in-Ok.ensures.held c.make.new.tree there (c.in-Ok.ensures.made s.past s.tree_is) c.self.invariant.rising; indexed = indexed_push (record { id = c.args.id.now; ctx = c.in-Ok.made.0; holder = c.in-Ok.made.1; conn = c.args.conn; deadline = c.args.deadline; hook = c.in-Ok-keep.hook; twigs = c.new-twigs.result }) c.self.inside.calls.items c.self.invariant.indexed fresh c.in-Ok-keep.ensures.named })
+    let grown : c.push_reserved.new.self.items ≡ c.self.inside.calls.items ++ l ∷ [] = c.push_reserved.ensures.items ∙ ap (λ ls. ls ++ l ∷ []) c.reserve.ensures.items in
+    rw grown (record {
+      sound = sound_begun s.laws s l c.new-twigs.ensures c.args.now c.args.request_id c.in-Ok.ensures.held c.make.new.tree there (c.in-Ok.ensures.made s.past s.tree_is) c.args.hook c.keep.new.hooks (c.in-Ok-keep.ensures.hooked s.hooks s.hooks_are) (c.in-Ok-keep.ensures.number s.hooks s.hooks_are);
+      rising = begun_rises s.laws s l c.new-twigs.ensures c.args.now c.args.request_id c.in-Ok.ensures.held c.make.new.tree there (c.in-Ok.ensures.made s.past s.tree_is) c.self.invariant.rising;
+      indexed = indexed_push l c.self.inside.calls.items c.self.invariant.indexed fresh c.in-Ok-keep.ensures.named;
+    })
 
 pub invariant_of-self-in-Err : goal.invariant_of-self-in-Err
 invariant_of-self-in-Err g c =
@@ -38,11 +44,12 @@ invariant_of-self-in-Err g c =
 pub returns-in-Ok-keep-clause-stands : goal.returns-in-Ok-keep-clause-stands
 returns-in-Ok-keep-clause-stands g c =
     let s = c.self.invariant.sound in
+    let l : Life = record { id = c.args.id.now; ctx = c.in-Ok.made.0; holder = c.in-Ok.made.1; conn = c.args.conn; deadline = c.args.deadline; hook = c.in-Ok-keep.hook; twigs = c.new-twigs.result } in
     let there : is_among c.args.conn c.self.inside.conns.items ≡ true = sym (conn_among c.self.inside.tree.slots c.self.inside.conns.items c.args.conn) ∙ ap (λ (v : WithHooks _ _ _). is_conn c.args.conn v.standing.conns) c.self.view_is ∙ c.requires.known in
-    rw (c.push_reserved.ensures.items, c.reserve.ensures.items)
+    let grown : c.push_reserved.new.self.items ≡ c.self.inside.calls.items ++ l ∷ [] = c.push_reserved.ensures.items ∙ ap (λ ls. ls ++ l ∷ []) c.reserve.ensures.items in
+    rw grown
     (pair_is _ _
-    (seen_begun s.laws s (record { id = c.args.id.now; ctx = c.in-Ok.made.0; holder = c.in-Ok.made.1; conn = c.args.conn; deadline = c.args.deadline; hook = c.in-Ok-keep.hook; twigs = c.new-twigs.result }) c.new-twigs.ensures c.args.now c.args.request_id
-    c.in-Ok.ensures.held c.make.new.tree there (c.in-Ok.ensures.made s.past s.tree_is)
+    (seen_begun s.laws s l c.new-twigs.ensures c.args.now c.args.request_id c.in-Ok.ensures.held c.make.new.tree there (c.in-Ok.ensures.made s.past s.tree_is)
     ∙ ap (λ (v : WithHooks _ _ _). begun c.in-Ok.made.0 c.args.id.now c.args.conn c.args.deadline c.args.now c.args.request_id v.standing) c.self.view_is)
     (more_hooks c.self.inside.hooks c.keep.new.hooks s.hooks s.hooks_are c.in-Ok.made.0 c.args.hook (c.in-Ok-keep.ensures.hooked s.hooks s.hooks_are)
     ∙ ap (λ (v : WithHooks _ _ _). v.hooks ++ (c.in-Ok.made.0, c.args.hook) ∷ []) c.self.view_is))
@@ -50,10 +57,10 @@ returns-in-Ok-keep-clause-stands g c =
 pub returns-in-Ok-keep-clause-fresh : goal.returns-in-Ok-keep-clause-fresh
 returns-in-Ok-keep-clause-fresh g c =
     let s = c.self.invariant.sound in
+    let l : Life = record { id = c.args.id.now; ctx = c.in-Ok.made.0; holder = c.in-Ok.made.1; conn = c.args.conn; deadline = c.args.deadline; hook = c.in-Ok-keep.hook; twigs = c.new-twigs.result } in
     let there : is_among c.args.conn c.self.inside.conns.items ≡ true = sym (conn_among c.self.inside.tree.slots c.self.inside.conns.items c.args.conn) ∙ ap (λ (v : WithHooks _ _ _). is_conn c.args.conn v.standing.conns) c.self.view_is ∙ c.requires.known in
     rw (← c.self.view_is)
-    (is_new s c.in-Ok.made.0 (begun_unheld s.laws s (record { id = c.args.id.now; ctx = c.in-Ok.made.0; holder = c.in-Ok.made.1; conn = c.args.conn; deadline = c.args.deadline; hook = c.in-Ok-keep.hook; twigs = c.new-twigs.result }) c.new-twigs.ensures c.args.now c.args.request_id
-    c.in-Ok.ensures.held c.make.new.tree there (c.in-Ok.ensures.made s.past s.tree_is)))
+    (is_new s c.in-Ok.made.0 (begun_unheld s.laws s l c.new-twigs.ensures c.args.now c.args.request_id c.in-Ok.ensures.held c.make.new.tree there (c.in-Ok.ensures.made s.past s.tree_is)))
 
 pub returns-in-Err-clause-back : goal.returns-in-Err-clause-back
 returns-in-Err-clause-back g c = let s = c.self.invariant.sound in c.in-Err.ensures.back s.hooks s.hooks_are

@@ -30,12 +30,11 @@ pub returns-in_err-reply-clause-err : goal.returns-in_err-reply-clause-err
 returns-in_err-reply-clause-err g c =
     let items = ap (λ (k : HeldConnection). k.calls) c.self.view_is in
     let lt : c.args.index < length c.self.inside.calls.items = (let within = c.requires.there in omega (arith, within, ap length items)) in
-    let seen : c.index.result.now ≡ kept_at c.args.index c.args.self.now.calls = here_is c.self.inside.calls.items c.args.self.now.calls c.args.index c.index.result.now items lt c.index.ensures in
-    let named : c.index-2.result.now ≡ kept_at c.args.index c.args.self.now.calls = here_is c.self.inside.calls.items c.args.self.now.calls c.args.index c.index-2.result.now items lt c.index-2.ensures in
+    let seen : c.index-call.result.now ≡ kept_at c.args.index c.args.self.now.calls = here_is c.self.inside.calls.items c.args.self.now.calls c.args.index c.index-call.result.now items lt c.index-call.ensures in
     let was : c.index_mut-call.result.now ≡ kept_at c.args.index c.args.self.now.calls = here_is c.self.inside.calls.items c.args.self.now.calls c.args.index c.index_mut-call.result.now items lt c.index_mut-call.ensures.value in
     let live : is_some (kept_at c.args.index c.args.self.now.calls).call.live ≡ true = ap (λ (x : KeptValue). is_some x.call.live) (sym seen) ∙ sym c.is_live.ensures ∙ c.if-not-is_live.false in
     let event : event_for c.args.shared.now.moment (kept_at c.args.index c.args.self.now.calls).id c.args.shared.now.contexts.standing ≡ Some c.in-Some.event =
-    ap (λ d. event_for c.args.shared.now.moment d c.args.shared.now.contexts.standing) (sym (c.id-id.ensures ∙ ap (λ (x : KeptValue). x.id) named)) ∙ sym c.ending.ensures ∙ c.in-Some.is in
+    ap (λ d. event_for c.args.shared.now.moment d c.args.shared.now.contexts.standing) (sym (c.id-id.ensures ∙ ap (λ (x : KeptValue). x.id) seen)) ∙ sym c.ending.ensures ∙ c.in-Some.is in
     let ends = some_ends c.in-Some.event (event_for c.args.shared.now.moment (kept_at c.args.index c.args.self.now.calls).id c.args.shared.now.contexts.standing) (kept_at c.args.index c.args.self.now.calls) event live in
     let given : c.end.new.self ≡ given_up (kept_at c.args.index c.args.self.now.calls) = c.end.ensures.given ∙ ap given_up was in
     let fewer : c.waiting.result ≡ waiting_in (kept_at c.args.index c.args.self.now.calls) = c.waiting.ensures ∙ ap waiting_in was in
@@ -72,12 +71,11 @@ pub returns-clause-ok : goal.returns-clause-ok
 returns-clause-ok g c =
     let items = ap (λ (k : HeldConnection). k.calls) c.self.view_is in
     let lt : c.args.index < length c.self.inside.calls.items = (let within = c.requires.there in omega (arith, within, ap length items)) in
-    let seen : c.index.result.now ≡ kept_at c.args.index c.args.self.now.calls = here_is c.self.inside.calls.items c.args.self.now.calls c.args.index c.index.result.now items lt c.index.ensures in
-    let named : c.index-2.result.now ≡ kept_at c.args.index c.args.self.now.calls = here_is c.self.inside.calls.items c.args.self.now.calls c.args.index c.index-2.result.now items lt c.index-2.ensures in
+    let seen : c.index-call.result.now ≡ kept_at c.args.index c.args.self.now.calls = here_is c.self.inside.calls.items c.args.self.now.calls c.args.index c.index-call.result.now items lt c.index-call.ensures in
     let was : c.index_mut-call.result.now ≡ kept_at c.args.index c.args.self.now.calls = here_is c.self.inside.calls.items c.args.self.now.calls c.args.index c.index_mut-call.result.now items lt c.index_mut-call.ensures.value in
     let live : is_some (kept_at c.args.index c.args.self.now.calls).call.live ≡ true = ap (λ (x : KeptValue). is_some x.call.live) (sym seen) ∙ sym c.is_live.ensures ∙ c.if-not-is_live.false in
     let event : event_for c.args.shared.now.moment (kept_at c.args.index c.args.self.now.calls).id c.args.shared.now.contexts.standing ≡ Some c.in-Some.event =
-    ap (λ d. event_for c.args.shared.now.moment d c.args.shared.now.contexts.standing) (sym (c.id-id.ensures ∙ ap (λ (x : KeptValue). x.id) named)) ∙ sym c.ending.ensures ∙ c.in-Some.is in
+    ap (λ d. event_for c.args.shared.now.moment d c.args.shared.now.contexts.standing) (sym (c.id-id.ensures ∙ ap (λ (x : KeptValue). x.id) seen)) ∙ sym c.ending.ensures ∙ c.in-Some.is in
     let ends = some_ends c.in-Some.event (event_for c.args.shared.now.moment (kept_at c.args.index c.args.self.now.calls).id c.args.shared.now.contexts.standing) (kept_at c.args.index c.args.self.now.calls) event live in
     let given : c.end.new.self ≡ given_up (kept_at c.args.index c.args.self.now.calls) = c.end.ensures.given ∙ ap given_up was in
     let fewer : c.waiting.result ≡ waiting_in (kept_at c.args.index c.args.self.now.calls) = c.waiting.ensures ∙ ap waiting_in was in
@@ -119,7 +117,7 @@ pub returns-then-not-is_live-clause-ok : goal.returns-then-not-is_live-clause-ok
 returns-then-not-is_live-clause-ok g c =
     let items = ap (λ (k : HeldConnection). k.calls) c.self.view_is in
     let lt : c.args.index < length c.self.inside.calls.items = (let within = c.requires.there in omega (arith, within, ap length items)) in
-    let seen : c.index.result.now ≡ kept_at c.args.index c.args.self.now.calls = here_is c.self.inside.calls.items c.args.self.now.calls c.args.index c.index.result.now items lt c.index.ensures in
+    let seen : c.index-call.result.now ≡ kept_at c.args.index c.args.self.now.calls = here_is c.self.inside.calls.items c.args.self.now.calls c.args.index c.index-call.result.now items lt c.index-call.ensures in
     none_ends c.args.index (ending_of c.args.index c.args.self.now c.args.shared.now) c.args.self.now c.args.shared.now
     (not_live (event_for c.args.shared.now.moment (kept_at c.args.index c.args.self.now.calls).id c.args.shared.now.contexts.standing) (kept_at c.args.index c.args.self.now.calls).call (ap (λ (x : KeptValue). is_some x.call.live) (sym seen) ∙ sym c.is_live.ensures ∙ c.if-not-is_live.true))
 
@@ -127,20 +125,19 @@ pub returns-in_default-clause-ok : goal.returns-in_default-clause-ok
 returns-in_default-clause-ok g c =
     let items = ap (λ (k : HeldConnection). k.calls) c.self.view_is in
     let lt : c.args.index < length c.self.inside.calls.items = (let within = c.requires.there in omega (arith, within, ap length items)) in
-    let named : c.index-2.result.now ≡ kept_at c.args.index c.args.self.now.calls = here_is c.self.inside.calls.items c.args.self.now.calls c.args.index c.index-2.result.now items lt c.index-2.ensures in
+    let seen : c.index-call.result.now ≡ kept_at c.args.index c.args.self.now.calls = here_is c.self.inside.calls.items c.args.self.now.calls c.args.index c.index-call.result.now items lt c.index-call.ensures in
     let event : event_for c.args.shared.now.moment (kept_at c.args.index c.args.self.now.calls).id c.args.shared.now.contexts.standing ≡ None =
-    ap (λ d. event_for c.args.shared.now.moment d c.args.shared.now.contexts.standing) (sym (c.id-id.ensures ∙ ap (λ (x : KeptValue). x.id) named)) ∙ sym c.ending.ensures ∙ c.in_default.is in
+    ap (λ d. event_for c.args.shared.now.moment d c.args.shared.now.contexts.standing) (sym (c.id-id.ensures ∙ ap (λ (x : KeptValue). x.id) seen)) ∙ sym c.ending.ensures ∙ c.in_default.is in
     none_ends c.args.index (ending_of c.args.index c.args.self.now c.args.shared.now) c.args.self.now c.args.shared.now (no_event (event_for c.args.shared.now.moment (kept_at c.args.index c.args.self.now.calls).id c.args.shared.now.contexts.standing) (kept_at c.args.index c.args.self.now.calls).call event)
 
 pub returns-in_err-reserve-clause-err : goal.returns-in_err-reserve-clause-err
 returns-in_err-reserve-clause-err g c =
     let items = ap (λ (k : HeldConnection). k.calls) c.self.view_is in
     let lt : c.args.index < length c.self.inside.calls.items = (let within = c.requires.there in omega (arith, within, ap length items)) in
-    let seen : c.index.result.now ≡ kept_at c.args.index c.args.self.now.calls = here_is c.self.inside.calls.items c.args.self.now.calls c.args.index c.index.result.now items lt c.index.ensures in
-    let named : c.index-2.result.now ≡ kept_at c.args.index c.args.self.now.calls = here_is c.self.inside.calls.items c.args.self.now.calls c.args.index c.index-2.result.now items lt c.index-2.ensures in
+    let seen : c.index-call.result.now ≡ kept_at c.args.index c.args.self.now.calls = here_is c.self.inside.calls.items c.args.self.now.calls c.args.index c.index-call.result.now items lt c.index-call.ensures in
     let live : is_some (kept_at c.args.index c.args.self.now.calls).call.live ≡ true = ap (λ (x : KeptValue). is_some x.call.live) (sym seen) ∙ sym c.is_live.ensures ∙ c.if-not-is_live.false in
     let event : event_for c.args.shared.now.moment (kept_at c.args.index c.args.self.now.calls).id c.args.shared.now.contexts.standing ≡ Some c.in-Some.event =
-    ap (λ d. event_for c.args.shared.now.moment d c.args.shared.now.contexts.standing) (sym (c.id-id.ensures ∙ ap (λ (x : KeptValue). x.id) named)) ∙ sym c.ending.ensures ∙ c.in-Some.is in
+    ap (λ d. event_for c.args.shared.now.moment d c.args.shared.now.contexts.standing) (sym (c.id-id.ensures ∙ ap (λ (x : KeptValue). x.id) seen)) ∙ sym c.ending.ensures ∙ c.in-Some.is in
     let ends = some_ends c.in-Some.event (event_for c.args.shared.now.moment (kept_at c.args.index c.args.self.now.calls).id c.args.shared.now.contexts.standing) (kept_at c.args.index c.args.self.now.calls) event live in
     let rest = rest_none c.args.self.now c.args.shared.now in
     err_if c.from_residual.result (record {
@@ -155,7 +152,7 @@ pub end-requires-clause-known : goal.end-requires-clause-known
 end-requires-clause-known g c =
     let items = ap (λ (k : HeldConnection). k.calls) c.self.view_is in
     let lt : c.args.index < length c.self.inside.calls.items = (let within = c.requires.there in omega (arith, within, ap length items)) in
-    let seen : c.index.result.now ≡ kept_at c.args.index c.args.self.now.calls = here_is c.self.inside.calls.items c.args.self.now.calls c.args.index c.index.result.now items lt c.index.ensures in
+    let seen : c.index-call.result.now ≡ kept_at c.args.index c.args.self.now.calls = here_is c.self.inside.calls.items c.args.self.now.calls c.args.index c.index-call.result.now items lt c.index-call.ensures in
     let was : c.index_mut-call.result.now ≡ kept_at c.args.index c.args.self.now.calls = here_is c.self.inside.calls.items c.args.self.now.calls c.args.index c.index_mut-call.result.now items lt c.index_mut-call.ensures.value in
     let live : is_some (kept_at c.args.index c.args.self.now.calls).call.live ≡ true = ap (λ (x : KeptValue). is_some x.call.live) (sym seen) ∙ sym c.is_live.ensures ∙ c.if-not-is_live.false in
     ap (λ (x : KeptValue). is_life x.id c.args.shared.now.contexts.standing.calls) was ∙ c.requires.known live
@@ -164,7 +161,7 @@ pub end-requires-clause-live : goal.end-requires-clause-live
 end-requires-clause-live g c =
     let items = ap (λ (k : HeldConnection). k.calls) c.self.view_is in
     let lt : c.args.index < length c.self.inside.calls.items = (let within = c.requires.there in omega (arith, within, ap length items)) in
-    let seen : c.index.result.now ≡ kept_at c.args.index c.args.self.now.calls = here_is c.self.inside.calls.items c.args.self.now.calls c.args.index c.index.result.now items lt c.index.ensures in
+    let seen : c.index-call.result.now ≡ kept_at c.args.index c.args.self.now.calls = here_is c.self.inside.calls.items c.args.self.now.calls c.args.index c.index-call.result.now items lt c.index-call.ensures in
     let was : c.index_mut-call.result.now ≡ kept_at c.args.index c.args.self.now.calls = here_is c.self.inside.calls.items c.args.self.now.calls c.args.index c.index_mut-call.result.now items lt c.index_mut-call.ensures.value in
     ap (λ (x : KeptValue). is_some x.call.live) (was ∙ sym seen) ∙ sym c.is_live.ensures ∙ c.if-not-is_live.false
 

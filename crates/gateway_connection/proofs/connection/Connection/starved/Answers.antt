@@ -17,9 +17,8 @@ pub returns-then-is_live-clause-takes : goal.returns-then-is_live-clause-takes
 returns-then-is_live-clause-takes g c =
     let items = ap (λ (k : HeldConnection). k.calls) c.self.view_is in
     let lt : c.in-Some.index < length c.self.inside.calls.items = (let within = c.in-Some.ensures.0.0 in omega (arith, within, ap length items)) in
-    let was : c.index.result.now ≡ kept_at c.in-Some.index c.args.self.now.calls = here_is c.self.inside.calls.items c.args.self.now.calls c.in-Some.index c.index.result.now items lt c.index.ensures in
-    let also : c.index-2.result.now ≡ kept_at c.in-Some.index c.args.self.now.calls = here_is c.self.inside.calls.items c.args.self.now.calls c.in-Some.index c.index-2.result.now items lt c.index-2.ensures in
-    starved_lost c.args.self.now c.args.shared.now c.args.request c.in-Some.index c.args.branch c.index.result.now c.seen-seen.result was c.in-Some.ensures.0 c.in-Some.ensures.1 c.seen-seen.ensures c.lose.new.self (ap (λ (x : KeptValue). is_some x.call.live) (sym also) ∙ sym c.is_live.ensures ∙ c.if-is_live.true) c.lose.ensures.lost
+    let was : c.index-call.result.now ≡ kept_at c.in-Some.index c.args.self.now.calls = here_is c.self.inside.calls.items c.args.self.now.calls c.in-Some.index c.index-call.result.now items lt c.index-call.ensures in
+    starved_lost c.args.self.now c.args.shared.now c.args.request c.in-Some.index c.args.branch c.index-call.result.now c.seen-seen.result was c.in-Some.ensures.0 c.in-Some.ensures.1 c.seen-seen.ensures c.lose.new.self (ap (λ (x : KeptValue). is_some x.call.live) (sym was) ∙ sym c.is_live.ensures ∙ c.if-is_live.true) c.lose.ensures.lost
 
 pub give_back-requires-clause-there : goal.give_back-requires-clause-there
 give_back-requires-clause-there g c = c.in-Some.ensures.0.0
@@ -28,9 +27,8 @@ pub give_back-requires-clause-over : goal.give_back-requires-clause-over
 give_back-requires-clause-over g c =
     let items = ap (λ (k : HeldConnection). k.calls) c.self.view_is in
     let lt : c.in-Some.index < length c.self.inside.calls.items = (let within = c.in-Some.ensures.0.0 in omega (arith, within, ap length items)) in
-    let was : c.index.result.now ≡ kept_at c.in-Some.index c.args.self.now.calls = here_is c.self.inside.calls.items c.args.self.now.calls c.in-Some.index c.index.result.now items lt c.index.ensures in
-    let also : c.index-2.result.now ≡ kept_at c.in-Some.index c.args.self.now.calls = here_is c.self.inside.calls.items c.args.self.now.calls c.in-Some.index c.index-2.result.now items lt c.index-2.ensures in
-    let dead : (kept_at c.in-Some.index c.args.self.now.calls).call.live ≡ None = none_live (kept_at c.in-Some.index c.args.self.now.calls).call.live (ap (λ (x : KeptValue). is_some x.call.live) (sym also) ∙ sym c.is_live.ensures ∙ c.if-is_live.false) in
+    let was : c.index-call.result.now ≡ kept_at c.in-Some.index c.args.self.now.calls = here_is c.self.inside.calls.items c.args.self.now.calls c.in-Some.index c.index-call.result.now items lt c.index-call.ensures in
+    let dead : (kept_at c.in-Some.index c.args.self.now.calls).call.live ≡ None = none_live (kept_at c.in-Some.index c.args.self.now.calls).call.live (ap (λ (x : KeptValue). is_some x.call.live) (sym was) ∙ sym c.is_live.ensures ∙ c.if-is_live.false) in
     dead
 
 pub forget-requires : goal.forget-requires
@@ -42,25 +40,22 @@ pub returns-clause-takes : goal.returns-clause-takes
 returns-clause-takes g c =
     let items = ap (λ (k : HeldConnection). k.calls) c.self.view_is in
     let lt : c.in-Some.index < length c.self.inside.calls.items = (let within = c.in-Some.ensures.0.0 in omega (arith, within, ap length items)) in
-    let was : c.index.result.now ≡ kept_at c.in-Some.index c.args.self.now.calls = here_is c.self.inside.calls.items c.args.self.now.calls c.in-Some.index c.index.result.now items lt c.index.ensures in
-    let also : c.index-2.result.now ≡ kept_at c.in-Some.index c.args.self.now.calls = here_is c.self.inside.calls.items c.args.self.now.calls c.in-Some.index c.index-2.result.now items lt c.index-2.ensures in
-    let dead : (kept_at c.in-Some.index c.args.self.now.calls).call.live ≡ None = none_live (kept_at c.in-Some.index c.args.self.now.calls).call.live (ap (λ (x : KeptValue). is_some x.call.live) (sym also) ∙ sym c.is_live.ensures ∙ c.if-is_live.false) in
-    starved_late c.args.self.now c.args.shared.now c.args.request c.in-Some.index c.args.branch c.index.result.now c.seen-seen.result was c.in-Some.ensures.0 c.in-Some.ensures.1 c.seen-seen.ensures c.give_back.new.self c.forget.new.self dead c.give_back.ensures c.held_law.ensures.apart c.forget.ensures
+    let was : c.index-call.result.now ≡ kept_at c.in-Some.index c.args.self.now.calls = here_is c.self.inside.calls.items c.args.self.now.calls c.in-Some.index c.index-call.result.now items lt c.index-call.ensures in
+    let dead : (kept_at c.in-Some.index c.args.self.now.calls).call.live ≡ None = none_live (kept_at c.in-Some.index c.args.self.now.calls).call.live (ap (λ (x : KeptValue). is_some x.call.live) (sym was) ∙ sym c.is_live.ensures ∙ c.if-is_live.false) in
+    starved_late c.args.self.now c.args.shared.now c.args.request c.in-Some.index c.args.branch c.index-call.result.now c.seen-seen.result was c.in-Some.ensures.0 c.in-Some.ensures.1 c.seen-seen.ensures c.give_back.new.self c.forget.new.self dead c.give_back.ensures c.held_law.ensures.apart c.forget.ensures
 
 pub returns-clause-tied : goal.returns-clause-tied
 returns-clause-tied g c =
     let items = ap (λ (k : HeldConnection). k.calls) c.self.view_is in
     let lt : c.in-Some.index < length c.self.inside.calls.items = (let within = c.in-Some.ensures.0.0 in omega (arith, within, ap length items)) in
-    let was : c.index.result.now ≡ kept_at c.in-Some.index c.args.self.now.calls = here_is c.self.inside.calls.items c.args.self.now.calls c.in-Some.index c.index.result.now items lt c.index.ensures in
-    let also : c.index-2.result.now ≡ kept_at c.in-Some.index c.args.self.now.calls = here_is c.self.inside.calls.items c.args.self.now.calls c.in-Some.index c.index-2.result.now items lt c.index-2.ensures in
-    let dead : (kept_at c.in-Some.index c.args.self.now.calls).call.live ≡ None = none_live (kept_at c.in-Some.index c.args.self.now.calls).call.live (ap (λ (x : KeptValue). is_some x.call.live) (sym also) ∙ sym c.is_live.ensures ∙ c.if-is_live.false) in
-    late_tied c.args.self.now c.args.shared.now c.args.request c.in-Some.index c.args.branch c.index.result.now c.seen-seen.result was c.in-Some.ensures.0 c.in-Some.ensures.1 c.seen-seen.ensures c.give_back.new.self c.forget.new.self dead c.give_back.ensures c.held_law.ensures.apart c.forget.ensures c.args.shared.now.contexts c.requires.tied
+    let was : c.index-call.result.now ≡ kept_at c.in-Some.index c.args.self.now.calls = here_is c.self.inside.calls.items c.args.self.now.calls c.in-Some.index c.index-call.result.now items lt c.index-call.ensures in
+    let dead : (kept_at c.in-Some.index c.args.self.now.calls).call.live ≡ None = none_live (kept_at c.in-Some.index c.args.self.now.calls).call.live (ap (λ (x : KeptValue). is_some x.call.live) (sym was) ∙ sym c.is_live.ensures ∙ c.if-is_live.false) in
+    late_tied c.args.self.now c.args.shared.now c.args.request c.in-Some.index c.args.branch c.index-call.result.now c.seen-seen.result was c.in-Some.ensures.0 c.in-Some.ensures.1 c.seen-seen.ensures c.give_back.new.self c.forget.new.self dead c.give_back.ensures c.held_law.ensures.apart c.forget.ensures c.args.shared.now.contexts c.requires.tied
 
 pub returns-clause-rest : goal.returns-clause-rest
 returns-clause-rest g c =
     let items = ap (λ (k : HeldConnection). k.calls) c.self.view_is in
     let lt : c.in-Some.index < length c.self.inside.calls.items = (let within = c.in-Some.ensures.0.0 in omega (arith, within, ap length items)) in
-    let was : c.index.result.now ≡ kept_at c.in-Some.index c.args.self.now.calls = here_is c.self.inside.calls.items c.args.self.now.calls c.in-Some.index c.index.result.now items lt c.index.ensures in
-    let also : c.index-2.result.now ≡ kept_at c.in-Some.index c.args.self.now.calls = here_is c.self.inside.calls.items c.args.self.now.calls c.in-Some.index c.index-2.result.now items lt c.index-2.ensures in
-    let dead : (kept_at c.in-Some.index c.args.self.now.calls).call.live ≡ None = none_live (kept_at c.in-Some.index c.args.self.now.calls).call.live (ap (λ (x : KeptValue). is_some x.call.live) (sym also) ∙ sym c.is_live.ensures ∙ c.if-is_live.false) in
-    rest_conn [] c.args.self.now c.args.self.now c.forget.new.self c.args.shared.now c.args.shared.now (late_waits c.args.self.now c.args.shared.now c.args.request c.in-Some.index c.args.branch c.index.result.now c.seen-seen.result was c.in-Some.ensures.0 c.in-Some.ensures.1 c.seen-seen.ensures c.give_back.new.self c.forget.new.self dead c.give_back.ensures c.held_law.ensures.apart c.forget.ensures) (rest_none c.args.self.now c.args.shared.now)
+    let was : c.index-call.result.now ≡ kept_at c.in-Some.index c.args.self.now.calls = here_is c.self.inside.calls.items c.args.self.now.calls c.in-Some.index c.index-call.result.now items lt c.index-call.ensures in
+    let dead : (kept_at c.in-Some.index c.args.self.now.calls).call.live ≡ None = none_live (kept_at c.in-Some.index c.args.self.now.calls).call.live (ap (λ (x : KeptValue). is_some x.call.live) (sym was) ∙ sym c.is_live.ensures ∙ c.if-is_live.false) in
+    rest_conn [] c.args.self.now c.args.self.now c.forget.new.self c.args.shared.now c.args.shared.now (late_waits c.args.self.now c.args.shared.now c.args.request c.in-Some.index c.args.branch c.index-call.result.now c.seen-seen.result was c.in-Some.ensures.0 c.in-Some.ensures.1 c.seen-seen.ensures c.give_back.new.self c.forget.new.self dead c.give_back.ensures c.held_law.ensures.apart c.forget.ensures) (rest_none c.args.self.now c.args.shared.now)

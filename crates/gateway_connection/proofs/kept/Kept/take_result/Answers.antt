@@ -1,13 +1,30 @@
-use Rattle.gateway_connection.specs.lemmas.Names.{◌≡◌, ◌+◌, ◌++◌, [], ◌∷◌, length, subst, sym, ap, ◌∙◌, ◌==◌, IsLawful, record_of, LiveValue, live_value, KeptValue, has_out}
-use Rattle.gateway_model.specs.declared.call_event.CallEvent.TheVariants.{Answer as Answered}
-use Rattle.gateway_connection.proofs.KeptLemmas.{room_next, fail_kept, answer_last_kept, answer_going_kept, last_step, going_step}
+use Rattle.gateway_connection.specs.lemmas.Names.{◌≡◌, ◌+◌, ◌++◌, [], ◌∷◌, length, subst, sym, ap, ◌∙◌, ◌==◌, IsLawful, record_of, LiveValue, live_value, KeptValue, has_out, Some, false, result_on, slice_set}
+use Rattle.gateway_model.specs.declared.call_event.CallEvent.TheVariants.{Answer as Answered, Failed}
+use Rattle.gateway_connection.specs.KeptCall.{live_of}
+use Rattle.gateway_connection.proofs.KeptLemmas.{room_next, fail_kept, end_step, late_step, answer_last_kept, answer_going_kept, last_step, going_step}
 use Rattle.gateway_connection.proofs.kept.Kept.take_result.Goals as goal
+use Rattle.gateway_connection.proofs.kept.Kept.take_result.Goals.{in-Answer-1, in-Fail-1}
+
+pub returns-in-None-default : goal.returns-in-None-default
+returns-in-None-default c =
+    let step = late_step c.args.moment c.args.self.now c.self.inside.id c.self.inside.out.items c.args.branch c.self.inside.group c.done.new.self c.self.inside.live c.take-live.new.self
+    c.done.result.next c.args.outcome c.self.view_is c.self.invariant (sym c.take-live.ensures.value ∙ c.in-None-default.is-0)
+    (ap (λ (k : KeptValue). has_out k.call c.args.branch) c.self.view_is ∙ c.requires.out) (ap (λ f. f.next) c.done.ensures.freed) c.take-live.ensures.after in
+    elim c.match-outcome.branch [ in-Answer-1 w ↦ rw w.self-is step | in-Fail-1 w ↦ rw w.self-is step ]
 
 pub invariant_of-self-in-Some-Fail : goal.invariant_of-self-in-Some-Fail
 invariant_of-self-in-Some-Fail c =
-    fail_kept c.self.inside.id c.self.inside.out.items c.args.branch c.self.inside.group c.clear_queue.new.self c.done-in-Some-Fail.new.self c.self.inside.live c.take-live.new.self
-    c.self.invariant (ap (λ (k : KeptValue). has_out k.call c.args.branch) c.self.view_is ∙ c.requires.out) c.clear_queue.ensures.cleared c.done-in-Some-Fail.ensures.finishes
+    fail_kept c.self.inside.id c.self.inside.out.items c.args.branch c.self.inside.group c.clear_queue.new.self c.done-next.new.self c.self.inside.live c.take-live.new.self
+    c.self.invariant (ap (λ (k : KeptValue). has_out k.call c.args.branch) c.self.view_is ∙ c.requires.out) c.clear_queue.ensures.cleared c.done-next.ensures.finishes
     c.take-live.ensures.after
+
+pub returns-in-Some-Fail : goal.returns-in-Some-Fail
+returns-in-Some-Fail c =
+    end_step c.args.moment c.args.self.now c.self.inside.id c.self.inside.out.items c.args.branch (Failed c.args.branch c.in-Some-Fail.error) c.self.inside.group c.clear_queue.new.self c.done-next.new.self
+    c.self.inside.live c.take-live.new.self c.in-Some-Fail.live c.end.result c.done-next.result.next c.args.outcome c.self.view_is c.self.invariant
+    (sym c.take-live.ensures.value ∙ c.in-Some-Fail.is-0) (ap (λ (k : KeptValue). has_out k.call c.args.branch) c.self.view_is ∙ c.requires.out)
+    (ap (λ o. result_on c.args.moment c.args.branch o (slice_set c.self.inside.out.items c.args.branch false) (Some (live_of c.self.inside.group.queue c.in-Some-Fail.live))) c.in-Some-Fail.is-1)
+    c.clear_queue.ensures.cleared c.end.ensures (ap (λ f. f.next) c.done-next.ensures.freed) c.take-live.ensures.after
 
 pub invariant_of-self-then-is_last_answer : goal.invariant_of-self-then-is_last_answer
 invariant_of-self-then-is_last_answer c =

@@ -1,5 +1,5 @@
 use Rattle.gateway_core.proofs.Names.{sym, subst, ap, ◌∙◌, arith, [], ◌≡◌, one_if_open, absent, Tallies, starved_like, starves_serving, gateway_of, held_at, IsWithout, is_at, set_value, nat_cmp, is_gone, if◌then◌else◌, call_id}
-use Rattle.gateway_core.proofs.StepLemmas.{left_whole, may_step, moves_left, starves_step}
+use Rattle.gateway_core.proofs.StepLemmas.{left_out, left_whole, may_step, moves_left, starves_step}
 use Rattle.gateway_core.proofs.ClauseLemmas.{Unheard, unheard}
 use Rattle.gateway_core.proofs.gateway.Core.starved.Goals as goal
 
@@ -8,10 +8,15 @@ starved-took-requires g c = may_step c.self.invariant c.number-number.result c.i
 
 pub invariant_of-self-2 : goal.invariant_of-self-2
 invariant_of-self-2 g c =
+    let found = c.in-Some.ensures.value ∙ ap (λ m. held_at m c.self.inside.conns.entries) c.number-number.ensures in
+    let set = (c.get_mut.follows.holds c.starved-took.new.self).0 ∙ ap (λ m. set_value (is_at (nat_cmp m)) c.self.inside.conns.entries c.starved-took.new.self) c.number-number.ensures in
+    let left = subst (λ m. IsWithout (is_gone c.starved-took.new.self) m (c.get_mut.follows.lender c.starved-took.new.self).entries c.remove_gone.new.conns.entries) c.number-number.ensures
+    (left_out c.number-number.result c.in-Some.held.now c.starved-took.new.self c.self.inside.conns.entries (c.get_mut.follows.lender c.starved-took.new.self).entries c.remove_gone.new.conns.entries
+    c.in-Some.ensures.value (c.get_mut.follows.holds c.starved-took.new.self).0 c.remove_gone.ensures) in
     let x = starved_like (call_id c.in-Some.held.now.number c.args.call.now.request) c.args.branch c.in-Some.held.now c.starved-took.new.self c.starved-took.result c.starved-took.ensures.takes (c.self.invariant.serving.each c.number-number.result c.in-Some.held.now (sym c.in-Some.ensures.value)).holds in
     let one : one_if_open c.starved-took.new.self ≡ one_if_open c.in-Some.held.now = ap (λ b. if b then 0 else 1) x.0.closed_is in
-    left_whole c.self.invariant c.args.call.now.conn c.in-Some.held.now c.starved-took.new.self (c.in-Some.ensures.value ∙ ap (λ m. held_at m c.self.inside.conns.entries) c.number-number.ensures) ((c.get_mut.follows.holds c.starved-took.new.self).0 ∙ ap (λ m. set_value (is_at (nat_cmp m)) c.self.inside.conns.entries c.starved-took.new.self) c.number-number.ensures) (subst (λ m. IsWithout (is_gone c.starved-took.new.self) m (c.get_mut.follows.lender c.starved-took.new.self).entries c.remove_if.new.conns.entries) c.number-number.ensures (subst (λ b. IsWithout b c.number-number.result (c.get_mut.follows.lender c.starved-took.new.self).entries c.remove_if.new.conns.entries) c.is_gone-gone.ensures c.remove_if.ensures)) c.starved-took.new.shared [] c.add-2.new.self c.self.inside.open c.starved-took.ensures.rest c.starved-took.ensures.tied x.0.number_is x.1
-    (omega (arith, one)) (starves_serving c.args.call.now c.args.branch (gateway_of c.self.inside.shared c.self.inside.conns.entries c.self.inside.opened c.self.inside.tally) (gateway_of c.starved-took.new.shared c.remove_if.new.conns.entries c.self.inside.opened c.add-2.new.self) c.starved-took.result (starves_step c.self.invariant c.args.call.now c.args.branch c.starved-took.result c.in-Some.held.now c.starved-took.new.self (c.in-Some.ensures.value ∙ ap (λ m. held_at m c.self.inside.conns.entries) c.number-number.ensures) (moves_left c.self.invariant c.args.call.now.conn c.in-Some.held.now c.starved-took.new.self (c.in-Some.ensures.value ∙ ap (λ m. held_at m c.self.inside.conns.entries) c.number-number.ensures) ((c.get_mut.follows.holds c.starved-took.new.self).0 ∙ ap (λ m. set_value (is_at (nat_cmp m)) c.self.inside.conns.entries c.starved-took.new.self) c.number-number.ensures) (subst (λ m. IsWithout (is_gone c.starved-took.new.self) m (c.get_mut.follows.lender c.starved-took.new.self).entries c.remove_if.new.conns.entries) c.number-number.ensures (subst (λ b. IsWithout b c.number-number.result (c.get_mut.follows.lender c.starved-took.new.self).entries c.remove_if.new.conns.entries) c.is_gone-gone.ensures c.remove_if.ensures)) c.starved-took.new.shared c.add-2.new.self) c.add-2.ensures c.starved-took.ensures.takes c.starved-took.ensures.rest c.starved-took.ensures.begun) c.self.invariant.serving)
+    left_whole c.self.invariant c.args.call.now.conn c.in-Some.held.now c.starved-took.new.self found set left c.starved-took.new.shared [] c.add-2.new.self c.self.inside.open c.starved-took.ensures.rest c.starved-took.ensures.tied x.0.number_is x.1
+    (omega (arith, one)) (starves_serving c.args.call.now c.args.branch (gateway_of c.self.inside.shared c.self.inside.conns.entries c.self.inside.opened c.self.inside.tally) (gateway_of c.starved-took.new.shared c.remove_gone.new.conns.entries c.self.inside.opened c.add-2.new.self) c.starved-took.result (starves_step c.self.invariant c.args.call.now c.args.branch c.starved-took.result c.in-Some.held.now c.starved-took.new.self found (moves_left c.self.invariant c.args.call.now.conn c.in-Some.held.now c.starved-took.new.self found set left c.starved-took.new.shared c.add-2.new.self) c.add-2.ensures c.starved-took.ensures.takes c.starved-took.ensures.rest c.starved-took.ensures.begun) c.self.invariant.serving)
 
 pub returns-in_default : goal.returns-in_default
 returns-in_default g c =
@@ -21,6 +26,11 @@ returns-in_default g c =
 
 pub returns : goal.returns
 returns g c =
-    let w = gateway_of c.starved-took.new.shared c.remove_if.new.conns.entries c.self.inside.opened c.add-2.new.self in
-    let all = subst (λ x. Unheard c.args.call.now c.args.branch c.starved-took.result x w) c.self.view_is (unheard c.self.invariant.serving (starves_step c.self.invariant c.args.call.now c.args.branch c.starved-took.result c.in-Some.held.now c.starved-took.new.self (c.in-Some.ensures.value ∙ ap (λ m. held_at m c.self.inside.conns.entries) c.number-number.ensures) (moves_left c.self.invariant c.args.call.now.conn c.in-Some.held.now c.starved-took.new.self (c.in-Some.ensures.value ∙ ap (λ m. held_at m c.self.inside.conns.entries) c.number-number.ensures) ((c.get_mut.follows.holds c.starved-took.new.self).0 ∙ ap (λ m. set_value (is_at (nat_cmp m)) c.self.inside.conns.entries c.starved-took.new.self) c.number-number.ensures) (subst (λ m. IsWithout (is_gone c.starved-took.new.self) m (c.get_mut.follows.lender c.starved-took.new.self).entries c.remove_if.new.conns.entries) c.number-number.ensures (subst (λ b. IsWithout b c.number-number.result (c.get_mut.follows.lender c.starved-took.new.self).entries c.remove_if.new.conns.entries) c.is_gone-gone.ensures c.remove_if.ensures)) c.starved-took.new.shared c.add-2.new.self) c.add-2.ensures c.starved-took.ensures.takes c.starved-took.ensures.rest c.starved-took.ensures.begun)) in
+    let found = c.in-Some.ensures.value ∙ ap (λ m. held_at m c.self.inside.conns.entries) c.number-number.ensures in
+    let set = (c.get_mut.follows.holds c.starved-took.new.self).0 ∙ ap (λ m. set_value (is_at (nat_cmp m)) c.self.inside.conns.entries c.starved-took.new.self) c.number-number.ensures in
+    let left = subst (λ m. IsWithout (is_gone c.starved-took.new.self) m (c.get_mut.follows.lender c.starved-took.new.self).entries c.remove_gone.new.conns.entries) c.number-number.ensures
+    (left_out c.number-number.result c.in-Some.held.now c.starved-took.new.self c.self.inside.conns.entries (c.get_mut.follows.lender c.starved-took.new.self).entries c.remove_gone.new.conns.entries
+    c.in-Some.ensures.value (c.get_mut.follows.holds c.starved-took.new.self).0 c.remove_gone.ensures) in
+    let w = gateway_of c.starved-took.new.shared c.remove_gone.new.conns.entries c.self.inside.opened c.add-2.new.self in
+    let all = subst (λ x. Unheard c.args.call.now c.args.branch c.starved-took.result x w) c.self.view_is (unheard c.self.invariant.serving (starves_step c.self.invariant c.args.call.now c.args.branch c.starved-took.result c.in-Some.held.now c.starved-took.new.self found (moves_left c.self.invariant c.args.call.now.conn c.in-Some.held.now c.starved-took.new.self found set left c.starved-took.new.shared c.add-2.new.self) c.add-2.ensures c.starved-took.ensures.takes c.starved-took.ensures.rest c.starved-took.ensures.begun)) in
     record { stands = all.stands; adds = all.adds; tells = all.tells; keeps = all.keeps }

@@ -1,5 +1,6 @@
-use Rattle.gateway_loop.proofs.Words.{◌≡◌, [], refl, rules, sym, ap, ◌∙◌, Some, ClientValue, lingers_in}
-use Rattle.gateway_loop.proofs.StepLemmas.{fits_reply, steps_reply}
+use Rattle.gateway_loop.proofs.Words.{◌≡◌, [], refl, rules, sym, ap, ◌∙◌, None, Some, ClientValue, lingers_in}
+use Rattle.gateway_loop.proofs.GrowLemmas.{grows_by, grows_same, no_more}
+use Rattle.gateway_loop.proofs.StepLemmas.{fits_no_reply, fits_reply, steps_reply, steps_same}
 use Rattle.gateway_loop.proofs.client.Client.fill.Goals as goal
 
 pub returns-clause-steps : goal.returns-clause-steps
@@ -10,3 +11,26 @@ returns-clause-steps g c =
     rw (← c.self.view_is)
     (steps_reply c.args.core.now c.take_reply.new.self _ _ (Some c.in-Some.reply) c.in-Some.ensures.only.plans_are refl c.in-Some.ensures.stands
     (fits_reply i.conn (lingers_in i.phase) (g.W.Wire.ended i.wire) (g.W.Wire.given i.wire) (g.W.Wire.got i.wire) i.outbox c.of.result c.in-Some.reply not_left none (c.of.ensures ∙ c.into_parts-id.ensures.bytes)))
+
+pub returns-clause-grows : goal.returns-clause-grows
+returns-clause-grows g c = rw (← c.self.view_is) (grows_by _ _ _ _ _ _ _ _ _ _ _ _ _ (no_more _ _ refl) (no_more _ _ refl))
+
+pub returns-then-lingers-clause-steps : goal.returns-then-lingers-clause-steps
+returns-then-lingers-clause-steps g c = steps_same _ _
+
+pub returns-then-lingers-clause-grows : goal.returns-then-lingers-clause-grows
+returns-then-lingers-clause-grows g c = grows_same _
+
+pub returns-then-not-is_empty-clause-steps : goal.returns-then-not-is_empty-clause-steps
+returns-then-not-is_empty-clause-steps g c = steps_same _ _
+
+pub returns-then-not-is_empty-clause-grows : goal.returns-then-not-is_empty-clause-grows
+returns-then-not-is_empty-clause-grows g c = grows_same _
+
+pub returns-in_default-clause-steps : goal.returns-in_default-clause-steps
+returns-in_default-clause-steps g c =
+    rw (← c.self.view_is)
+    (steps_reply c.args.core.now c.take_reply.new.self _ _ None c.in_default.ensures.only.plans_are refl c.in_default.ensures.stands (fits_no_reply c.self.inside.conn _))
+
+pub returns-in_default-clause-grows : goal.returns-in_default-clause-grows
+returns-in_default-clause-grows g c = grows_same _

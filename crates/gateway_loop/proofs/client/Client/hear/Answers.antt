@@ -1,7 +1,7 @@
 use Rattle.gateway_loop.proofs.Words.{ap, refl, take, HangUp, Piece, lingers_in}
 use Rattle.gateway_loop.proofs.GrowLemmas.{grows_by, no_more}
 use Rattle.gateway_loop.proofs.LeadLemmas.{hang_up_elsewhere, piece_elsewhere}
-use Rattle.gateway_loop.proofs.StepLemmas.{fits_hang_up, fits_piece, steps_event}
+use Rattle.gateway_loop.proofs.StepLemmas.{fits_hang_up, fits_piece, fits_still, steps_event, steps_fit}
 use Rattle.gateway_loop.proofs.client.Client.hear.Goals as goal
 
 pub returns-in-Bytes-clause-steps : goal.returns-in-Bytes-clause-steps
@@ -27,3 +27,28 @@ returns-in-End-clause-steps g c =
     (steps_event c.args.core.now c.hang_up.new.core _ _ (HangUp i.conn) c.hang_up.ensures.plans refl c.hang_up.ensures.stands
     (fits_hang_up i.conn (lingers_in i.phase) (g.W.Wire.ended i.wire) _ (g.W.Wire.given i.wire) (g.W.Wire.got i.wire) i.outbox _ _ (ap lingers_in c.in-Reads.is) e.given e.got e.ended)
     (λ d off. hang_up_elsewhere i.conn d off) refl refl refl refl)
+
+pub returns-in-Nothing-clause-steps : goal.returns-in-Nothing-clause-steps
+returns-in-Nothing-clause-steps g c =
+    let e = c.in-Nothing.ensures in
+    rw (← c.self.view_is) (steps_fit _ _ _ (fits_still _ _ _ _ _ _ _ _ _ e.given e.got e.ended))
+
+pub returns-in-Interrupted-clause-steps : goal.returns-in-Interrupted-clause-steps
+returns-in-Interrupted-clause-steps g c =
+    let e = c.in-Interrupted.ensures in
+    rw (← c.self.view_is) (steps_fit _ _ _ (fits_still _ _ _ _ _ _ _ _ _ e.given e.got e.ended))
+
+pub returns-in-Nothing-clause-grows : goal.returns-in-Nothing-clause-grows
+returns-in-Nothing-clause-grows g c =
+    let e = c.in-Nothing.ensures in
+    rw (← c.self.view_is) (grows_by _ _ _ _ _ _ _ _ _ _ _ _ _ (no_more _ _ e.given) (no_more _ _ e.got))
+
+pub returns-in-Interrupted-clause-grows : goal.returns-in-Interrupted-clause-grows
+returns-in-Interrupted-clause-grows g c =
+    let e = c.in-Interrupted.ensures in
+    rw (← c.self.view_is) (grows_by _ _ _ _ _ _ _ _ _ _ _ _ _ (no_more _ _ e.given) (no_more _ _ e.got))
+
+pub returns-in-End-clause-grows : goal.returns-in-End-clause-grows
+returns-in-End-clause-grows g c =
+    let e = c.in-End.ensures in
+    rw (← c.self.view_is) (grows_by _ _ _ _ _ _ _ _ _ _ _ _ _ (no_more _ _ e.given) (no_more _ _ e.got))

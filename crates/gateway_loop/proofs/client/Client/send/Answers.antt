@@ -1,4 +1,5 @@
-use Rattle.gateway_loop.proofs.GrowLemmas.{grows_by, no_more}
+use Rattle.gateway_loop.proofs.GrowLemmas.{grows_by, grows_same, no_more}
+use Rattle.gateway_loop.proofs.StepLemmas.{fits_as_before, fits_still}
 use Rattle.gateway_loop.proofs.client.Client.send.Goals as goal
 
 pub returns-then-is_empty-2-clause-grows : goal.returns-then-is_empty-2-clause-grows
@@ -10,3 +11,45 @@ pub returns-else-is_empty-2-clause-grows : goal.returns-else-is_empty-2-clause-g
 returns-else-is_empty-2-clause-grows g c =
     let e = c.in-Bytes.ensures in
     rw (← c.self.view_is) (grows_by _ _ _ _ _ _ _ _ _ _ _ _ _ (no_more _ _ e.given) e.got.2)
+
+pub returns-then-is_empty-clause-fits : goal.returns-then-is_empty-clause-fits
+returns-then-is_empty-clause-fits g c = fits_as_before _
+
+pub returns-then-is_empty-clause-grows : goal.returns-then-is_empty-clause-grows
+returns-then-is_empty-clause-grows g c = grows_same _
+
+pub returns-then-not-edges-clause-fits : goal.returns-then-not-edges-clause-fits
+returns-then-not-edges-clause-fits g c = fits_as_before _
+
+pub returns-then-not-edges-clause-grows : goal.returns-then-not-edges-clause-grows
+returns-then-not-edges-clause-grows g c = grows_same _
+
+pub returns-in-Nothing-clause-fits : goal.returns-in-Nothing-clause-fits
+returns-in-Nothing-clause-fits g c =
+    let e = c.in-Nothing.ensures in
+    rw (← c.self.view_is) (fits_still _ _ _ _ _ _ _ _ _ e.given e.got e.ended)
+
+pub returns-in-Nothing-clause-grows : goal.returns-in-Nothing-clause-grows
+returns-in-Nothing-clause-grows g c =
+    let e = c.in-Nothing.ensures in
+    rw (← c.self.view_is) (grows_by _ _ _ _ _ _ _ _ _ _ _ _ _ (no_more _ _ e.given) (no_more _ _ e.got))
+
+pub returns-in-Interrupted-clause-fits : goal.returns-in-Interrupted-clause-fits
+returns-in-Interrupted-clause-fits g c =
+    let e = c.in-Interrupted.ensures in
+    rw (← c.self.view_is) (fits_still _ _ _ _ _ _ _ _ _ e.given e.got e.ended)
+
+pub returns-in-Interrupted-clause-grows : goal.returns-in-Interrupted-clause-grows
+returns-in-Interrupted-clause-grows g c =
+    let e = c.in-Interrupted.ensures in
+    rw (← c.self.view_is) (grows_by _ _ _ _ _ _ _ _ _ _ _ _ _ (no_more _ _ e.given) (no_more _ _ e.got))
+
+pub returns-in-Failed-clause-fits : goal.returns-in-Failed-clause-fits
+returns-in-Failed-clause-fits g c =
+    let e = c.in-Failed.ensures in
+    rw (← c.self.view_is) (fits_still _ _ _ _ _ _ _ _ _ e.given e.got e.ended)
+
+pub returns-in-Failed-clause-grows : goal.returns-in-Failed-clause-grows
+returns-in-Failed-clause-grows g c =
+    let e = c.in-Failed.ensures in
+    rw (← c.self.view_is) (grows_by _ _ _ _ _ _ _ _ _ _ _ _ _ (no_more _ _ e.given) (no_more _ _ e.got))

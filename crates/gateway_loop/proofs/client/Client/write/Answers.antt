@@ -13,3 +13,6 @@ loop-write-preserved g c = (
   grows_then _ _ _ (grows_then _ _ _ c.loop-write.invariant.1 c.fill.ensures.grows) c.in-None.ensures.grows,
   c.in-None.ensures.told ∙ c.loop-write.invariant.2,
 )
+
+pub returns-in-Some-clause-grows : goal.returns-in-Some-clause-grows
+returns-in-Some-clause-grows g c = grows_then _ _ _ (grows_then _ _ _ c.loop-write.invariant.1 c.fill.ensures.grows) c.in-Some.ensures.grows

@@ -1,5 +1,5 @@
 use Rattle.gateway_loop.proofs.Words.{◌≡◌, List, Option, Some, ap, refl, sym, subst, ◌∙◌, Slab, ClientValue, at}
-use Rattle.gateway_loop.proofs.GrowLemmas.{continues_come, onward}
+use Rattle.gateway_loop.proofs.GrowLemmas.{begins_same, continues_all, continues_come, onward}
 use Rattle.gateway_loop.proofs.Places.{Put, put_one}
 use Rattle.gateway_loop.proofs.ServingLemmas.{serving_comes}
 use Rattle.gateway_loop.proofs.clients.Clients.open.Goals as goal
@@ -27,3 +27,13 @@ returns-clause-goes g c =
     rw (← c.self.view_is)
     (onward _ _ (continues_come _ _ c.open_conn.ensures.keeps.plans_are refl refl refl refl put.result c.new.result (sym (ap (λ (old : List (Option ClientValue)). at put.result old) slots) ∙ put.ensures.was_vacant)
     (subst (λ (old : List (Option ClientValue)). Put old put.new.self.slots put.result (Some c.new.result)) slots puts) refl))
+
+pub returns-then-is_err-clause-goes : goal.returns-then-is_err-clause-goes
+returns-then-is_err-clause-goes g c =
+    let slots : c.reserve.new.self.slots ≡ c.self.inside.clients.slots = ap (λ (s : Slab ClientValue). s.slots) c.reserve.ensures.rest_kept in
+    rw (← c.self.view_is) (onward _ _ (continues_all _ _ refl slots refl refl (begins_same _) (begins_same _) (begins_same _)))
+
+pub returns-in_default-clause-goes : goal.returns-in_default-clause-goes
+returns-in_default-clause-goes g c =
+    let slots : c.reserve.new.self.slots ≡ c.self.inside.clients.slots = ap (λ (s : Slab ClientValue). s.slots) c.reserve.ensures.rest_kept in
+    rw (← c.self.view_is) (onward _ _ (continues_all _ _ c.open_conn.ensures.keeps.plans_are slots refl refl (begins_same _) (begins_same _) (begins_same _)))

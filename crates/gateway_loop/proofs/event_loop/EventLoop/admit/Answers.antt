@@ -10,3 +10,6 @@ returns-then-not-is_seated-clause-goes g c =
       | then-is_ok+in-Ok-1 w ↦ rw w.self-is at c.drop_client.ensures.goes
       | else-is_ok w ↦ rw w.self-is at c.drop_client.ensures.goes
     ]))
+
+pub returns-in_default-clause-goes : goal.returns-in_default-clause-goes
+returns-in_default-clause-goes g c = rw (← c.self.view_is) c.open.ensures.goes

@@ -1,6 +1,8 @@
 use Rattle.gateway_replies.proofs.Names.{◌≡◌, ◌∙◌, ◌∷◌, [], None, Some, true, false, ap, sym, is_some, arc_value, WithHooks, ctx_for, HookedContexts, peer_ties, stock_ties}
 use Rattle.gateway_replies.proofs.ContextLemmas.{agree, left_tied, left_value, no_life, stands_in}
 use Rattle.gateway_replies.proofs.HookLemmas.{calls_hook, drops_one}
+use Rattle.std.proofs.lemmas.Result.{IfOk-weaker}
+use Rattle.gateway_model.specs.Duty.{MeetsDuty}
 use Rattle.gateway_replies.proofs.contexts.Contexts.end.Goals as goal
 
 pub invariant_of-self : goal.invariant_of-self
@@ -45,3 +47,6 @@ returns-clause-called g c = λ hook its.
     c.in-Some-end.ensures.called hook
     (calls_hook c.args.self.now _ (stock_ties s.peers.items) s.contexts.standing.calls s.contexts.hooks c.args.id.now c.in-Some.ctx hook c.self.view_is c.apart_law.ensures.hooked
     (agree s.contexts.standing.calls c.args.id.now c.in-Some.ctx c.apart_law.ensures.apart c.self.invariant.calls_apart at) its)
+
+pub returns-clause-duty : goal.returns-clause-duty
+returns-clause-duty g c = IfOk-weaker c.in-Some-end.answer (g.H.Hook.meets c.args.ending) (MeetsDuty c.args.ending) (g.met.H.ReplyHook.exact c.args.ending) c.in-Some-end.ensures.duty

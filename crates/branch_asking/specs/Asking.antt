@@ -1,0 +1,124 @@
+-- A job that is asked for: what was written and read for it, and how that ends.
+use Rattle.std.specs.Prelude.{◌≡◌, ℕ, Bool, true, false, All, List, [], ◌∷◌, ◌++◌, map, Option, Some, None, option_map}
+use Rattle.std.specs.Option.{option_map_or}
+use Rattle.std.specs.declared.net.socket_addr.SocketAddr.{SocketAddr}
+use Rattle.http_pieces.specs.ReplyReader.{HasReadReply}
+use Rattle.http_pieces.specs.declared.reply.HttpReply.{HttpReply}
+use Rattle.branch_exchange.specs.Exchange.{BeginsWithReply, ExchangeValue}
+use Rattle.branch_exchange.specs.declared.exchange_end.ExchangeEnd.{ExchangeEnd}
+use Rattle.branch_exchange.specs.declared.exchange_end.ExchangeEnd.TheVariants as ends
+use Rattle.gateway_model.specs.Queue.{IsPrefixOf}
+use Rattle.gateway_theory.specs.Task.{HandedJob}
+use Rattle.loop_model.specs.Asking.{AskingValue, IsAddressed, IsUntouched, StreamValue, request_of, stream_value}
+use Rattle.branch_asking.specs.Addresses.{AddressesValue, AreOf}
+use Rattle.branch_asking.specs.declared.attempt.Step.{Step}
+use Rattle.branch_asking.specs.declared.attempt.Step.TheVariants.{Waits, More, Refused, Ended}
+
+-- ---- an exchange over a stream
+
+-- what is left to be written of its request and the reader of its reply, and all that was read from its stream and written to it; nothing,
+-- while it has none
+pub record AttemptValue : Type 0 where
+  pub exchange : ExchangeValue
+  pub given : List ℕ
+  pub got : List ℕ
+  -- the address that its stream leads to, if it has one, whether a read found its end, or failed, and whether it took or gave a byte
+  pub peer : Option SocketAddr
+  pub ended : Bool
+  pub connected : Bool
+
+abbrev pub attempt_value : ExchangeValue → Option StreamValue → Bool → AttemptValue
+attempt_value exchange stream connected = record {
+  exchange = exchange;
+  given = option_map_or (λ (s : StreamValue). s.given) stream [];
+  got = option_map_or (λ (s : StreamValue). s.got) stream [];
+  peer = option_map (λ (s : StreamValue). s.peer) stream;
+  ended = option_map_or (λ (s : StreamValue). s.ended) stream false;
+  connected = connected;
+}
+
+-- this request is being written, or its reply is being read and is not whole yet; and no read found the end of its stream, or failed
+pub record Asks (request : List ℕ) (x : AttemptValue) : Type 0 where
+  pub sends : x.got ++ x.exchange.left ≡ request
+  pub reads : HasReadReply x.exchange.replies x.given None
+  pub goes_on : x.ended ≡ false
+
+-- It has ended so: with a reply only if the request was written whole, and what was read begins with that. In any case the first bytes of
+-- the request were written, and no others.
+pub record HasEnded (request : List ℕ) (end : ExchangeEnd) (x : AttemptValue) : Type 0 where
+  pub prefix : IsPrefixOf x.got request
+  pub whole : (reply : HttpReply) → end ≡ ends.Reply reply → (x.got ≡ request) × BeginsWithReply x.given reply
+
+-- nothing was written or read
+abbrev pub IsUntouchedAttempt : AttemptValue → Type 0
+IsUntouchedAttempt x = (x.got ≡ []) × (x.given ≡ [])
+
+-- while it has no stream, nothing was written
+abbrev pub IsUnsent : AttemptValue → Type 0
+IsUnsent x = x.peer ≡ None → x.got ≡ []
+
+-- this was its stream
+abbrev pub HadStream : StreamValue → AttemptValue → Type 0
+HadStream s x = (s.given ≡ x.given) × (s.got ≡ x.got) × (x.peer ≡ Some s.peer) × (s.ended ≡ x.ended)
+
+-- more may have been read from its stream, and written to it
+abbrev pub HasGrown : AttemptValue → AttemptValue → Type 0
+HasGrown x y = IsPrefixOf x.given y.given × IsPrefixOf x.got y.got × (y.peer ≡ x.peer)
+
+-- it goes on; or its address accepts no connection; or it has ended so
+abbrev pub StepsTo : List ℕ → Step → AttemptValue → Type 0
+StepsTo request Waits x = Asks request x
+StepsTo request More x = Asks request x
+StepsTo request (Refused kind) x = Asks request x × IsUntouchedAttempt x
+StepsTo request (Ended end) x = HasEnded request end x
+
+-- whatever its request is, a step of it is such a one
+abbrev pub Steps : AttemptValue → Step → AttemptValue → Type 0
+Steps x step y = (request : List ℕ) → Asks request x → StepsTo request step y
+
+-- ---- the job that it asks for
+
+-- the job, its addresses, its attempt, how it ended, if it did, and the streams that were given up before
+pub record AskingState : Type 0 where
+  pub job : HandedJob
+  pub addresses : AddressesValue
+  pub attempt : AttemptValue
+  pub end : Option ExchangeEnd
+  pub tried : List StreamValue
+
+abbrev pub asking_state : HandedJob → AddressesValue → AttemptValue → Option ExchangeEnd → List (StreamValue × Bool) → AskingState
+asking_state job addresses attempt end tried =
+    record { job = job; addresses = addresses; attempt = attempt; end = end; tried = map (λ (t : StreamValue × Bool). t.0) tried }
+
+-- what the loop shows of it
+abbrev pub asked_for : AskingState → AskingValue
+asked_for x = record {
+  job = x.job.job;
+  found = x.addresses.found;
+  tried = x.tried;
+  peer = x.attempt.peer;
+  given = x.attempt.given;
+  got = x.attempt.got;
+}
+
+-- the stream that it goes over, if there is one
+abbrev pub stream_of : AttemptValue → List StreamValue
+stream_of x = option_map_or (λ (peer : SocketAddr). stream_value peer x.given x.got x.ended ∷ []) x.peer []
+
+-- where it goes over another stream from now on, the one before is among those that were given up; unless it ended, or its stream took a byte
+abbrev pub NotesStream : Bool → AskingState → AskingState → Type 0
+NotesStream true x y = x.end ≡ None → x.attempt.connected ≡ false → y.tried ≡ x.tried ++ stream_of x.attempt
+NotesStream false x y = (y.attempt ≡ x.attempt) × (y.tried ≡ x.tried)
+
+-- these addresses were found for the name, and are its own if that is the address of its job
+abbrev pub Finds : List ℕ → List SocketAddr → AskingState → AskingState → Type 0
+Finds name more x y = (x.job.job.address ≡ name → y.addresses.found ≡ x.addresses.found ++ more) × ((x.job.job.address ≡ name → ⊥) → y ≡ x)
+
+-- nothing was read from the streams that were given up, or written to them; its stream leads to an address of its job, and so will others;
+-- and it asks for its job, or ended so
+pub record HasBegun (x : AskingState) : Type 0 where
+  pub addressed : IsAddressed (asked_for x)
+  pub given : AreOf x.job.job.address x.addresses
+  pub untouched : All IsUntouched x.tried
+  pub asks : x.end ≡ None → Asks (request_of x.job.job) x.attempt
+  pub ended : (end : ExchangeEnd) → x.end ≡ Some end → HasEnded (request_of x.job.job) end x.attempt

@@ -1,0 +1,264 @@
+ghost use Rattle.std.specs.Prelude.{◌≡◌, [], Some, is_some, IfOk, IfSome, MatchOption, option_and_then};
+ghost use Rattle.std.specs.Option.{option_map_or};
+ghost use Rattle.branch_causes.specs.Causes.{cause_of_end, status_of_end};
+ghost use Rattle.branch_causes.specs.declared.cause.Cause.TheVariants.{NotWanted};
+ghost use Rattle.branch_exchange.specs.Outcomes.{asked_of, outcome_of_asked};
+ghost use Rattle.branch_asking.specs.Asking.{Finds, NotesStream, asked_for};
+ghost use Rattle.loop_model.specs.Asking.{BeginsRequest, IsFair, ended_value, request_of};
+ghost use Rattle.loop_model.specs.Whole.{AsksOn};
+
+use crate::addresses::Addresses;
+use crate::attempt::{Attempt, Step};
+use crate::backend::Backend;
+use crate::edges::Edges;
+use crate::network::Network;
+use branch_causes::{Cause, status_of_end};
+use branch_exchange::{ExchangeEnd, Loss, outcome_of};
+use connect_codec::{BranchAsk, Outcome, branch_request};
+use gateway_core::Job;
+use http_pieces::Bytes;
+use http_server::Log;
+use std::alloc::{AllocError, Global};
+use std::collections::VecDeque;
+use std::io::ErrorKind;
+use std::marker::Model;
+use std::mem;
+use std::net::SocketAddr;
+use wires::Wire;
+
+/// A job that is asked for.
+#[derive(Drop)]
+pub struct Asking<W: Wire> {
+    job: Job,
+    addresses: Addresses,
+    attempt: Attempt<W>,
+    // how it ended, until that is recorded
+    end: Option<ExchangeEnd>,
+    // for proofs: the streams that were given up before
+    tried: Log<Backend<W>, bool>,
+}
+
+impl<W: Wire> Model for Asking<W> {
+    ghost use Rattle.branch_asking.specs.Asking.{AskingState, HasBegun, asking_state};
+
+    ghost Value = { AskingState };
+
+    ghost view = { λ a. asking_state a.job a.addresses a.attempt a.end a.tried.items };
+
+    ghost invariant = { λ a. HasBegun (asking_state a.job a.addresses a.attempt a.end a.tried.items) };
+}
+
+/// What a step of a job that is asked for came to.
+#[derive(Clone, Copy, PartialEq, Eq, Debug)]
+pub enum Progress {
+    /// It would have to wait.
+    Waits,
+    /// There may be more to do.
+    More,
+    /// Its address accepts no connection: nothing was written.
+    Refused(ErrorKind),
+    /// It is over.
+    Ended,
+}
+
+impl<W: Wire> Asking<W> {
+    /// The job, before anything was done for it. One for whose request there is no memory is over.
+    pub fn new(alloc: Global, job: Job) -> Asking<W>
+        ensures { result.job ≡ job }
+    {
+        match request_of(alloc, &job) {
+            Ok(request) => Asking {
+                job,
+                addresses: Addresses::new(alloc),
+                attempt: Attempt::new(alloc, request),
+                end: None,
+                tried: Log::new(),
+            },
+            Err(_) => Asking {
+                job,
+                addresses: Addresses::new(alloc),
+                attempt: Attempt::new(alloc, Bytes::new(alloc)),
+                end: Some(ExchangeEnd::NoMemory),
+                tried: Log::new(),
+            },
+        }
+    }
+
+    pub fn job(&self) -> &Job
+        ensures { result.now ≡ self.now.job }
+    {
+        &self.job
+    }
+
+    /// Whether it ended.
+    pub fn is_over(&self) -> bool
+        ensures { result ≡ is_some self.now.end }
+    {
+        self.end.is_some()
+    }
+
+    /// What ended it, as far as its exchange tells.
+    pub fn cause(&self) -> Cause
+        ensures { result ≡ option_map_or cause_of_end self.now.end NotWanted }
+    {
+        match &self.end {
+            Some(end) => Cause::of_end(end),
+            None => Cause::NotWanted,
+        }
+    }
+
+    /// The status of its reply.
+    pub fn status(&self) -> Option<u16>
+        ensures { result ≡ option_and_then status_of_end self.now.end }
+    {
+        match &self.end {
+            Some(end) => status_of_end(end),
+            None => None,
+        }
+    }
+
+    /// Its exchange, and the stream that it goes over.
+    pub fn attempt(&self) -> &Attempt<W>
+        ensures { result.now ≡ self.now.attempt }
+    {
+        &self.attempt
+    }
+
+    /// What was written for it begins its request, and nothing was written to a stream that was given up. It does nothing.
+    pub fn begun_law(&self)
+        ensures { BeginsRequest (asked_for self.now) }
+    {
+        let _ = &self.job;
+    }
+
+    /// Whether there is an address that is to be tried.
+    pub fn has_others(&self) -> bool {
+        self.addresses.has_more()
+    }
+
+    /// Whether its job's address is no name. It is to be tried then.
+    pub fn has_address(&mut self) -> bool
+        ensures job { self.new.job ≡ self.old.job }
+        ensures on { AsksOn (asked_for self.old) (asked_for self.new) }
+    {
+        self.addresses.parse(self.job.address())
+    }
+
+    /// These addresses were found for the name. They are to be tried, if it is that of its job.
+    pub fn find(&mut self, name: &str, found: VecDeque<SocketAddr>)
+        ensures job { self.new.job ≡ self.old.job }
+        ensures on { AsksOn (asked_for self.old) (asked_for self.new) }
+        ensures found { Finds name.now found.items self.old self.new }
+    {
+        if name == self.job.address() {
+            self.addresses.find(found);
+        }
+    }
+
+    /// Writes what can be written of the request, and then reads what can be read of the reply.
+    pub fn step(&mut self, edges: &mut Edges) -> Progress
+        ensures job { self.new.job ≡ self.old.job }
+        ensures on { AsksOn (asked_for self.old) (asked_for self.new) }
+    {
+        if self.end.is_some() {
+            return Progress::Ended;
+        }
+        let step = self.attempt.step(edges);
+        self.attempt.unsent_law();
+        match step {
+            Step::Waits => Progress::Waits,
+            Step::More => Progress::More,
+            Step::Refused(kind) => Progress::Refused(kind),
+            Step::Ended(end) => {
+                set_end(&mut self.end, end);
+                Progress::Ended
+            }
+        }
+    }
+
+    /// It is over: it is lost by this, whatever was read; None for want of memory.
+    pub fn lose(&mut self, loss: Option<Loss>)
+        ensures job { self.new.job ≡ self.old.job }
+        ensures on { AsksOn (asked_for self.old) (asked_for self.new) }
+        ensures ended { MatchOption loss (self.new.end ≡ Some ExchangeEnd.NoMemory)
+            (λ loss. self.new.end ≡ Some (ExchangeEnd.Lost loss)) }
+    {
+        match loss {
+            Some(loss) => set_end(&mut self.end, ExchangeEnd::Lost(loss)),
+            None => set_end(&mut self.end, ExchangeEnd::NoMemory),
+        }
+    }
+
+    /// The outcome that is to be recorded; None for want of memory. One that has not ended is lost.
+    pub fn conclude(&mut self, alloc: Global) -> Option<Outcome>
+        ensures job { self.new.job ≡ self.old.job }
+        ensures on { AsksOn (asked_for self.old) (asked_for self.new) }
+        ensures fair { IsFair (ended_value (asked_for self.new) result) }
+        ensures tells { (end : ExchangeEnd) → self.old.end ≡ Some end
+            → IfSome result (λ outcome. outcome_of_asked (asked_of end) ≡ Some outcome) }
+    {
+        match take_end(&mut self.end) {
+            Some(end) => outcome_of(alloc, end.asked()),
+            None => outcome_of(alloc, branch_exchange::Asked::Lost),
+        }
+    }
+}
+
+impl<W: Wire + Drop> Asking<W> {
+    /// It goes over a stream to the next of its addresses from now on; unless it ended, or its stream took a byte. False where there is no
+    /// other address.
+    pub fn connect<N: Network<W>>(&mut self, net: &mut N) -> bool
+        ensures job { self.new.job ≡ self.old.job }
+        ensures on { AsksOn (asked_for self.old) (asked_for self.new) }
+        ensures notes { NotesStream result self.old self.new }
+        ensures told { N.told net.new ≡ N.told net.old }
+    {
+        if self.attempt.is_connected() || self.end.is_some() {
+            return true;
+        }
+        let Some(address) = self.addresses.next() else {
+            return false;
+        };
+        let stream = Backend::connect(net, address, self.attempt.left());
+        if let Some(before) = self.attempt.connect(stream) {
+            self.tried = self.tried.and(&before, &true);
+        }
+        true
+    }
+
+    /// The job. Its stream is closed.
+    pub fn into_job(self) -> Job
+        ensures { result ≡ self.job }
+    {
+        self.job
+    }
+}
+
+/// It ended so.
+fn set_end(end: &mut Option<ExchangeEnd>, now: ExchangeEnd)
+    ensures { end.new ≡ Some now }
+{
+    *end = Some(now);
+}
+
+/// How it ended. It is over.
+fn take_end(end: &mut Option<ExchangeEnd>) -> Option<ExchangeEnd>
+    ensures taken { result ≡ end.old }
+    ensures over { end.new ≡ Some ExchangeEnd.NoMemory }
+{
+    mem::replace(end, Some(ExchangeEnd::NoMemory))
+}
+
+/// The request that asks for the job.
+fn request_of(alloc: Global, job: &Job) -> Result<Bytes, AllocError>
+    ensures { IfOk result (λ bytes. bytes ≡ request_of job.now.job) }
+{
+    let ask = BranchAsk {
+        address: job.address(),
+        path: job.path(),
+        remaining: job.remaining(),
+        request_id: job.request_id(),
+        body: job.body(),
+    };
+    branch_request(alloc, &ask)
+}

@@ -1,0 +1,198 @@
+ghost use Rattle.std.specs.Prelude.{◌≡◌, ◌↔◌, ℕ, List, [], None, Some, IfSome, IsTrue, IsFalse, false};
+ghost use Rattle.loop_model.specs.Asking.{IsUntouched};
+ghost use Rattle.branch_asking.specs.Asking.{Asks, HadStream, HasGrown, IsUnsent, IsUntouchedAttempt, Steps, attempt_value};
+
+use crate::backend::Backend;
+use crate::edges::Edges;
+use branch_exchange::{Exchange, ExchangeEnd, Loss};
+use http_pieces::Bytes;
+use std::alloc::Global;
+use std::io::ErrorKind;
+use std::marker::Model;
+use std::mem;
+use wires::{Got, PIECE, Sent, Wire};
+
+/// So often its stream is read in a turn at most, and written.
+const MOST_STEPS: u32 = 4;
+
+/// An exchange, and the stream that it goes over.
+#[derive(Drop)]
+pub struct Attempt<W: Wire> {
+    exchange: Exchange,
+    // none while its address is not known
+    stream: Option<Backend<W>>,
+    // whether its stream took a byte
+    is_connected: bool,
+}
+
+impl<W: Wire> Model for Attempt<W> {
+    ghost use Rattle.std.specs.Prelude.{◌≡◌, false};
+    ghost use Rattle.branch_asking.specs.Asking.{AttemptValue, IsUntouchedAttempt, attempt_value};
+
+    ghost Value = { AttemptValue };
+
+    ghost view = { λ a. attempt_value a.exchange a.stream a.is_connected };
+
+    ghost invariant = { λ a. a.is_connected ≡ false
+        → IsUntouchedAttempt (attempt_value a.exchange a.stream a.is_connected) };
+}
+
+/// What a step of an exchange came to.
+#[derive(Drop)]
+pub(crate) enum Step {
+    /// It would have to wait.
+    Waits,
+    /// There may be more to do.
+    More,
+    /// Its address accepts no connection: nothing was written.
+    Refused(ErrorKind),
+    /// It is over.
+    Ended(ExchangeEnd),
+}
+
+impl<W: Wire> Attempt<W> {
+    /// Before anything was done for this request.
+    pub(crate) fn new(alloc: Global, request: Bytes) -> Attempt<W>
+        ensures asks { Asks request result }
+        ensures untouched { IsUntouchedAttempt result }
+        ensures alone { result.peer ≡ None }
+    {
+        Attempt {
+            exchange: Exchange::new(alloc, request),
+            stream: None,
+            is_connected: false,
+        }
+    }
+
+    /// Its stream, once its address is known.
+    pub fn wire(&self) -> Option<&W> {
+        Some(self.stream.as_ref()?.wire())
+    }
+
+    /// Whether its stream took a byte.
+    pub fn is_connected(&self) -> bool
+        ensures is { result ≡ self.now.connected }
+        ensures untouched { IsFalse result → IsUntouchedAttempt self.now }
+    {
+        self.is_connected
+    }
+
+    /// While it has no stream, nothing was written. It does nothing.
+    pub(crate) fn unsent_law(&self)
+        ensures { IsUnsent self.now }
+    {
+        let _ = &self.stream;
+    }
+
+    /// Whether its request was written whole.
+    pub fn is_sent(&self) -> bool
+        ensures { IsTrue result ↔ (self.now.exchange.left ≡ []) }
+    {
+        self.exchange.is_sent()
+    }
+
+    /// How many bytes of its request are left to be written.
+    pub(crate) fn left(&self) -> usize {
+        self.exchange.request().waiting().len()
+    }
+
+    /// Writes what can be written of the request, and then reads what can be read of the reply.
+    pub(crate) fn step(&mut self, edges: &mut Edges) -> Step
+        ensures steps { Steps self.old result self.new }
+        ensures grows { HasGrown self.old self.new }
+    {
+        for _step in 0..MOST_STEPS {
+            match self.step_once(edges) {
+                Step::More => {}
+                step => return step,
+            }
+        }
+        Step::More
+    }
+
+    /// Writes once while some of the request is left, and else reads once.
+    fn step_once(&mut self, edges: &mut Edges) -> Step
+        ensures steps { Steps self.old result self.new }
+        ensures grows { HasGrown self.old self.new }
+    {
+        if self.exchange.is_sent() {
+            self.receive(edges)
+        } else {
+            self.send(edges)
+        }
+    }
+
+    /// Writes once of what is left of the request.
+    fn send(&mut self, edges: &mut Edges) -> Step
+        ensures steps { Steps self.old result self.new }
+        ensures grows { HasGrown self.old self.new }
+    {
+        if !edges.may_write {
+            return Step::Waits;
+        }
+        let Some(stream) = &mut self.stream else {
+            return Step::Waits;
+        };
+        match stream.write(self.exchange.request()) {
+            Sent::Bytes(count) => {
+                self.exchange.sent(count);
+                self.is_connected = true;
+                Step::More
+            }
+            Sent::Nothing => {
+                edges.may_write = false;
+                Step::Waits
+            }
+            Sent::Interrupted => Step::More,
+            Sent::Failed(kind) if self.is_connected => {
+                Step::Ended(ExchangeEnd::Lost(Loss::Write(kind)))
+            }
+            Sent::Failed(kind) => Step::Refused(kind),
+        }
+    }
+
+    /// Reads once of the reply.
+    fn receive(&mut self, edges: &mut Edges) -> Step
+        ensures steps { Steps self.old result self.new }
+        ensures grows { HasGrown self.old self.new }
+    {
+        if !edges.may_read {
+            return Step::Waits;
+        }
+        let Some(stream) = &mut self.stream else {
+            return Step::Waits;
+        };
+        let mut piece = [0u8; PIECE];
+        match stream.read(&mut piece) {
+            Got::Bytes(count) => {
+                self.is_connected = true;
+                edges.has_read(count);
+                match self.exchange.received(&piece[..count]) {
+                    Some(end) => Step::Ended(end),
+                    None => Step::More,
+                }
+            }
+            Got::Nothing => {
+                edges.may_read = false;
+                Step::Waits
+            }
+            Got::Interrupted => Step::More,
+            Got::End(Some(kind)) => Step::Ended(ExchangeEnd::Lost(Loss::Read(kind))),
+            Got::End(None) => Step::Ended(ExchangeEnd::Lost(Loss::End)),
+        }
+    }
+}
+
+impl<W: Wire + Drop> Attempt<W> {
+    /// It goes over this stream from now on, of which nothing was read or written. Answers the one before, if there was one.
+    pub(crate) fn connect(&mut self, stream: Backend<W>) -> Option<Backend<W>>
+        requires { IsUntouched stream }
+        ensures fresh { self.new ≡ attempt_value self.old.exchange (Some stream) false }
+        ensures before { IfSome result (λ before. HadStream before self.old) }
+        ensures first { result ≡ None → self.old.peer ≡ None }
+        ensures untouched { result ≡ None → IsUntouchedAttempt self.old }
+    {
+        self.is_connected = false;
+        mem::replace(&mut self.stream, Some(stream))
+    }
+}

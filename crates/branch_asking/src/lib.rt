@@ -1,0 +1,16 @@
+//! Asks the backend of one branch in steps, none of which waits: over a stream to one of its addresses, and then to the next.
+#![tactic(auto)]
+
+mod addresses;
+mod asking;
+mod attempt;
+mod backend;
+mod branch_end;
+mod edges;
+mod network;
+
+pub use asking::{Asking, Progress};
+pub use attempt::Attempt;
+pub use branch_end::BranchEnd;
+pub use edges::{Edges, Ready};
+pub use network::Network;

@@ -1,0 +1,45 @@
+ghost use Rattle.std.specs.Prelude.{◌≡◌, ◌∷◌, ◌++◌, ℕ, List, [], false};
+
+use crate::branch_end::BranchEnd;
+use gateway_core::{CallId, ReplyEntry};
+use std::net::SocketAddr;
+use wires::Wire;
+
+/// What a loop needs besides its clients' streams. None of its functions waits.
+pub trait Network<W: Wire> {
+    // for proofs: all the moments that it told, in order
+    ghost told: { Self → List ℕ };
+
+    /// The present moment, in milliseconds since the start. It is never less than one that was told before.
+    fn moment(&mut self) -> u64
+        ensures told { told self.new ≡ told self.old ++ result ∷ [] };
+
+    /// Begins to connect to the address, over which a request of so many bytes will be written. Where it can't, the answer is a wire
+    /// whose first write fails.
+    fn connect(&mut self, address: SocketAddr, length: usize) -> W
+        ensures told { told self.new ≡ told self.old }
+        ensures given { W.given result ≡ [] }
+        ensures got { W.got result ≡ [] }
+        ensures ended { W.ended result ≡ false };
+
+    /// Watches the wire: whenever bytes come, its end, or, with `writes`, room to write, a `Ready` of this token tells so once. False
+    /// where it can't.
+    fn watch(&mut self, wire: &W, token: usize, writes: bool) -> bool
+        ensures told { told self.new ≡ told self.old };
+
+    /// Has the name, `host:port`, looked up: a `LookedUp` tells later what came of it. False where it can't.
+    fn look_up(&mut self, name: &str) -> bool
+        ensures told { told self.new ≡ told self.old };
+
+    /// Is told that the reply to this request was written whole, or that its write failed.
+    fn tell_reply(&mut self, id: CallId, entry: &ReplyEntry)
+        ensures told { told self.new ≡ told self.old };
+
+    /// Is told that a stream was closed without a byte: there was no memory for it, or it could not be watched.
+    fn tell_unserved(&mut self)
+        ensures told { told self.new ≡ told self.old };
+
+    /// Is told what asking the backend of a branch came to, before the reply to its call is told.
+    fn tell_branch(&mut self, end: &BranchEnd)
+        ensures told { told self.new ≡ told self.old };
+}

@@ -1,5 +1,0 @@
-use Rattle.gateway_loop.proofs.BegunLemmas.{begins_request}
-use Rattle.gateway_loop.proofs.asking.Asking.begun_law.Goals as goal
-
-pub returns : goal.returns
-returns g c = rw (← c.self.view_is) (begins_request _ c.self.invariant)

@@ -1,8 +1,0 @@
-use Rattle.gateway_loop.proofs.Words.{[], Some, ap, append-nil, sym, ◌∙◌, StreamValue}
-use Rattle.gateway_loop.proofs.attempt.Attempt.send.Goals as goal
-
-pub returns-in-Bytes-clause-grows : goal.returns-in-Bytes-clause-grows
-returns-in-Bytes-clause-grows g c =
-    let rest = c.write.ensures.rest in
-    rw (← c.self.view_is)
-    (rw c.in-Some.is (([], ap (λ (s : StreamValue). s.given) rest ∙ sym (append-nil _)), (_, c.in-Bytes.ensures.got.2), ap (λ (s : StreamValue). Some s.peer) rest))

@@ -1,0 +1,26 @@
+use Rattle.gateway_loop.proofs.Words.{◌≡◌, refl, Goes}
+use Rattle.gateway_loop.proofs.AskLemmas.{goes_same, goes_then}
+use Rattle.gateway_loop.proofs.event_loop.EventLoop.serve_client.Goals as goal
+use Rattle.gateway_loop.proofs.event_loop.EventLoop.serve_client.Goals.{then-matches, else-matches}
+
+pub returns-clause-goes : goal.returns-clause-goes
+returns-clause-goes g c =
+    let after : Goes c.note_half_read.new.self c.if-matches.self = elim c.if-matches.branch [
+      | then-matches w ↦ rw w.self-is w.give_up_unwanted.ensures.goes
+      | else-matches w ↦ rw w.self-is (goes_same _)
+    ] in
+    goes_then _ _ _ c.tick.ensures.goes (rw c.self.view_is at (goes_then _ _ _ c.read_client-heard.ensures.goes (goes_then _ _ _ c.note_half_read.ensures.goes (goes_then _ _ _ after c.note.ensures.goes))))
+
+pub returns-clause-told : goal.returns-clause-told
+returns-clause-told g c =
+    let same : c.if-matches.self.side.told ≡ c.note_half_read.new.self.side.told = elim c.if-matches.branch [
+      | then-matches w ↦ rw w.self-is w.give_up_unwanted.ensures.told
+      | else-matches w ↦ rw w.self-is refl
+    ] in
+    λ u is. rw (c.note.ensures.told, same, c.note_half_read.ensures.told, c.read_client-heard.ensures.told, c.self.view_is) (c.tick.ensures.told u is)
+
+pub returns-in_default-clause-goes : goal.returns-in_default-clause-goes
+returns-in_default-clause-goes g c = rw c.self.view_is c.tick.ensures.goes
+
+pub returns-in_default-clause-told : goal.returns-in_default-clause-told
+returns-in_default-clause-told g c = λ u is. rw c.self.view_is (c.tick.ensures.told u is)
