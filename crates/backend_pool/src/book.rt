@@ -36,12 +36,23 @@ use whole_pieces::deliver;
 /// Each book stands for some list of events. Its calls `opening`, `piece`, `hang_up`, `moment`, `result`, `starved`,
 /// `drain` and `closing` are one event each; `take_job` and `take_reply` are none. L, J and K are the ledgers of bytes, jobs
 /// and results.
-#[derive(Drop)]
 pub struct Book<H, L: Ledger, J: Ledger, K: Ledger> {
     core: Core<H>,
     bytes: Counter<L>,
     jobs: Counter<J>,
     results: Counter<K>,
+}
+
+// by hand, so that a drop is one call, where a derived one is written out at each return
+impl<H: Drop, L: Ledger, J: Ledger, K: Ledger> Drop for Book<H, L, J, K> {
+    fn drop(self) {
+        let Book {
+            core: _,
+            bytes: _,
+            jobs: _,
+            results: _,
+        } = self;
+    }
 }
 
 impl<H, L: Ledger, J: Ledger, K: Ledger> Model for Book<H, L, J, K> {
@@ -204,7 +215,8 @@ impl<H: ReplyHook + Drop, L: Ledger, J: Ledger, K: Ledger> Book<H, L, J, K> {
         Ok(self.core.result(call, branch, outcome))
     }
 
-    /// Whoever asked a backend found no memory for what the branch ended with, whatever that was. Adds 1 to the total of results.
+    /// Whoever asked a backend found no memory for what the branch ended with, whatever that was. Adds 1 to the total
+    /// of results.
     pub fn starved(
         &mut self,
         call: &CallId,
@@ -277,10 +289,10 @@ impl<H: ReplyHook + Drop, L: Ledger, J: Ledger, K: Ledger> Book<H, L, J, K> {
         NextReply::of(reply, self.core.ended(conn))
     }
 
-    /// What holds of the core whenever its lock is free. At most 64 connections are open, and no more than 8 requests of one that
-    /// is not broken wait for their replies. Of whatever events it stands for: a call that can be decided, of a connection that is
-    /// not broken, has a lawful record, which is not decided; and no call has more branches out than its plan's limit. It does
-    /// nothing.
+    /// What holds of the core whenever its lock is free. At most 64 connections are open, and no more than 8 requests
+    /// of one that is not broken wait for their replies. Of whatever events it stands for: a call that can be decided,
+    /// of a connection that is not broken, has a lawful record, which is not decided; and no call has more branches
+    /// out than its plan's limit. It does nothing.
     pub fn bounds_law(&self)
         ensures few { open_count self.now.core ≤ most_open }
         ensures calls { HasFewCalls self.now.core }

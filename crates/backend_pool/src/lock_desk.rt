@@ -113,8 +113,8 @@ impl<H: ReplyHook + Drop, L: Ledger, J: Ledger, K: Ledger> State<H, L, J, K> {
     }
 }
 
-/// Works at the lock until it is shut and no job waits, or a total would pass 2^62, and gives the shares back. `LedgerFull`
-/// where the last job's result was not counted, since that total would.
+/// Works at the lock until it is shut and no job waits, or a total would pass 2^62, and gives the shares back.
+/// `LedgerFull` where the last job's result was not counted, since that total would.
 pub fn worker<H: ReplyHook + Drop, L: Ledger, J: Ledger, K: Ledger>(
     rt: &(impl Net + Clock + Wait),
     alloc: Global,

@@ -27,7 +27,8 @@ pub struct RemoteBackend {
 }
 
 impl RemoteBackend {
-    /// A backend whose requests and replies are kept on this allocator. Jobs' deadlines are milliseconds from that instant.
+    /// A backend whose requests and replies are kept on this allocator. Jobs' deadlines are milliseconds from that
+    /// instant.
     pub fn new(alloc: Global, start: Instant) -> RemoteBackend {
         RemoteBackend { alloc, start }
     }
@@ -72,16 +73,15 @@ impl Backend for RemoteBackend {
     }
 }
 
-/// How long a backend is waited for beyond its job's deadline, in milliseconds. Whoever hands in a moment meanwhile ends the
-/// call, so that a silent backend is not taken for the call's first failure.
+/// How long a backend is waited for beyond its job's deadline, in milliseconds. Whoever hands in a moment meanwhile
+/// ends the call, so that a silent backend is not taken for the call's first failure.
 const GRACE: u64 = 50;
 
 /// So many of the addresses that a name has are tried at most.
 const MOST_ADDRESSES: u32 = 32;
 
-/// A new connection to one of the address's own addresses, which are tried in turn up to that instant, if there is one (RFC 9110,
-/// section 4.3.3). If another follows, that has half of the time which is left, and at least
-/// a millisecond.
+/// A new connection to one of the address's own addresses, which are tried in turn up to that instant, if there is one
+/// (RFC 9110, section 4.3.3). If another follows, that has half of the time which is left, and at least a millisecond.
 fn connect<R: Net + Clock>(rt: &R, address: &str, until: Option<Instant>) -> io::Result<R::Stream> {
     let mut addresses = address.to_socket_addrs(rt)?.peekable();
     for _address in 0..MOST_ADDRESSES {
@@ -143,7 +143,8 @@ impl<'a, C: Clock, S> StreamEnd<'a, C, S> {
         }
     }
 
-    /// The time that the next wait may take, where the system has to be told: at the first wait, and where less is left.
+    /// The time that the next wait may take, where the system has to be told: at the first wait, and where less is
+    /// left.
     fn new_timeout(&mut self) -> io::Result<Option<Duration>> {
         let Some(left) = time_left(self.clock, self.until)? else {
             return Ok(None);
@@ -195,8 +196,9 @@ impl<C: Clock, S: Write + OpenStream> Write for StreamEnd<'_, C, S> {
     }
 }
 
-/// Writes the request, and reads one reply (RFC 9112), over ends that wait. `Lost` where a write or a read fails, a write
-/// takes nothing, the input ends before the reply is whole, the reply is refused, or 131,072 reads left it incomplete.
+/// Writes the request, and reads one reply (RFC 9112), over ends that wait. `Lost` where a write or a read fails, a
+/// write takes nothing, the input ends before the reply is whole, the reply is refused, or 131,072 reads left it
+/// incomplete.
 pub fn exchange<R: Read, W: Write>(
     alloc: Global,
     reader: &mut R,

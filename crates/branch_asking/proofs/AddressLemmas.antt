@@ -47,7 +47,7 @@ found_are text x y more is are = subst (λ (v : AddressesValue). AreOf text v) (
 -- the text was that of an address, or none
 pub tried_are : (text own : List ℕ) (b : Bool) (x y : AddressesValue) → own ≡ text → HasParsed own b x y → AreOf text x → AreOf text y
 tried_are text own true x y same p are = parsed_are text x y p.0 (subst (λ (t : List ℕ). IsSocketText t p.0) same p.1) p.2 are
-tried_are text own false x y same p are = subst (λ (v : AddressesValue). AreOf text v) (sym p) are
+tried_are text own false x y same p are = subst (λ (v : AddressesValue). AreOf text v) (sym p.1) are
 
 pub tried_found : (own : List ℕ) (b : Bool) (x y : AddressesValue) → HasParsed own b x y → y.found ≡ x.found
 tried_found own b x y h4 = grind (arith, nat_tests)

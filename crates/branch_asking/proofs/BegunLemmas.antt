@@ -1,7 +1,8 @@
 -- What a job that is asked for has begun.
-use Rattle.branch_asking.proofs.Words.{◌≡◌, ℕ, Bool, true, false, List, [], ◌∷◌, ◌++◌, All, map, Option, None, Some, refl, sym, ap, ◌∙◌, subst, is_some, All-nil, All-push, map-append, append-nil, HandedJob, IsPrefixOf, AsksOn, BeginsRequest, IsAddressOf, IsUntouched, StreamValue, inl, inr, request_of, stream_value, SocketAddr, AddressesValue, AreOf, addresses_value, next_of, Asks, AskingState, AttemptValue, HadStream, HasBegun, HasEnded, HasGrown, IsUnsent, IsUntouchedAttempt, asked_for, asking_state, attempt_value}
+use Rattle.branch_asking.proofs.Words.{◌≡◌, ℕ, Bool, true, false, List, [], ◌∷◌, ◌++◌, All, map, Option, None, Some, refl, sym, ap, ◌∙◌, subst, is_some, All-nil, All-push, map-append, HandedJob, IsPrefixOf, AsksOn, BeginsRequest, IsAddressOf, IsUntouched, StreamValue, inl, inr, request_of, stream_value, SocketAddr, AddressesValue, AreOf, addresses_value, next_of, Asks, AskingState, AttemptValue, HadStream, HasBegun, HasEnded, HasGrown, IsUnsent, IsUntouchedAttempt, asked_for, asking_state, attempt_value}
 use Rattle.std.proofs.lemmas.Bool.Decides.{nat_tests}
 use Rattle.std.proofs.Common.{arith}
+use Rattle.gateway_theory.specs.lemmas.PastLemmas.{prefix-refl}
 use Rattle.http_pieces.specs.ReplyReader.{HasReadReply}
 use Rattle.branch_exchange.specs.declared.exchange_end.Loss.{Loss}
 use Rattle.branch_exchange.specs.declared.exchange_end.ExchangeEnd.{ExchangeEnd}
@@ -9,11 +10,8 @@ use Rattle.branch_exchange.specs.declared.exchange_end.ExchangeEnd.TheVariants a
 use Rattle.http_pieces.specs.declared.reply.HttpReply.{HttpReply}
 use Rattle.branch_asking.proofs.AddressLemmas.{new_are, taken_are, taken_is}
 
-begins_same : {A : Type 0} (xs : List A) → IsPrefixOf xs xs
-begins_same xs = ([], sym (append-nil xs))
-
 begins_is : {A : Type 0} (xs ys : List A) → ys ≡ xs → IsPrefixOf xs ys
-begins_is xs ys is = ([], is ∙ sym (append-nil xs))
+begins_is {A} xs ys is = subst (λ (l : List A). IsPrefixOf xs l) (sym is) (prefix-refl xs)
 
 no_reply : (reply : HttpReply) → ends.NoMemory ≡ ends.Reply reply → ⊥
 no_reply reply e = cc
@@ -138,7 +136,7 @@ begins_request x b = search arith
 
 pub asks_grown : (job : HandedJob) (a : AddressesValue) (x y : AttemptValue) (end : Option ExchangeEnd) (items : List (StreamValue × Bool)) → HasGrown x y
     → AsksOn (asked_for (asking_state job a x end items)) (asked_for (asking_state job a y end items))
-asks_grown job a x y end items g = record { job = refl; found = begins_same a.found; streams = inl record { tried = refl; peer = inr g.2; given = g.0; got = g.1 } }
+asks_grown job a x y end items g = record { job = refl; found = prefix-refl a.found; streams = inl record { tried = refl; peer = inr g.2; given = g.0; got = g.1 } }
 
 module _ (job : HandedJob) (a b : AddressesValue) (x y : AttemptValue) (end : Option ExchangeEnd) (items : List (StreamValue × Bool)) where
   -- its stream was given up

@@ -14,10 +14,10 @@ pub record AddressesValue : Type 0 where
 abbrev pub addresses_value : Option SocketAddr → List SocketAddr → List SocketAddr → AddressesValue
 addresses_value first others found = record { first = first; others = others; found = found }
 
--- the text was that of an address, which is the first to be tried from now on; or it was none
+-- the text was that of an address, which is the first to be tried from now on; or it was that of none
 abbrev pub HasParsed : List ℕ → Bool → AddressesValue → AddressesValue → Type 0
 HasParsed text true x y = (address : SocketAddr) × IsSocketText text address × (y ≡ addresses_value (Some address) x.others x.found)
-HasParsed text false x y = y ≡ x
+HasParsed text false x y = ((address : SocketAddr) → IsSocketText text address → ⊥) × (y ≡ x)
 
 -- those that are to be tried
 abbrev pub next_of : AddressesValue → List SocketAddr

@@ -1,4 +1,4 @@
-ghost use Rattle.std.specs.Prelude.{◌≡◌, ◌++◌, [], None, option_to_list};
+ghost use Rattle.std.specs.Prelude.{◌≡◌, ◌↔◌, ◌++◌, [], IsFalse, None, option_to_list};
 ghost use Rattle.branch_asking.specs.Addresses.{HasParsed, addresses_value, next_of};
 
 use http_server::Log;
@@ -39,7 +39,9 @@ impl Addresses {
     }
 
     /// Whether there is one that is to be tried.
-    pub(crate) fn has_more(&self) -> bool {
+    pub(crate) fn has_more(&self) -> bool
+        ensures { IsFalse result ↔ (next_of self.now ≡ []) }
+    {
         self.first.is_some() || !self.others.is_empty()
     }
 

@@ -1,8 +1,9 @@
-ghost use Rattle.std.specs.Prelude.{◌≡◌, [], Some, is_some, IfOk, IfSome, MatchOption, option_and_then};
+ghost use Rattle.std.specs.Prelude.{◌≡◌, ◌↔◌, [], Some, true, is_some, IfOk, IfSome, IsFalse, MatchOption, option_and_then};
 ghost use Rattle.std.specs.Option.{option_map_or};
 ghost use Rattle.branch_causes.specs.Causes.{cause_of_end, status_of_end};
 ghost use Rattle.branch_causes.specs.declared.cause.Cause.TheVariants.{NotWanted};
 ghost use Rattle.branch_exchange.specs.Outcomes.{asked_of, outcome_of_asked};
+ghost use Rattle.branch_asking.specs.Addresses.{HasParsed, next_of};
 ghost use Rattle.branch_asking.specs.Asking.{Finds, NotesStream, asked_for};
 ghost use Rattle.loop_model.specs.Asking.{BeginsRequest, IsFair, ended_value, request_of};
 ghost use Rattle.loop_model.specs.Whole.{AsksOn};
@@ -64,7 +65,8 @@ pub enum Progress {
 impl<W: Wire> Asking<W> {
     /// The job, before anything was done for it. One for whose request there is no memory is over.
     pub fn new(alloc: Global, job: Job) -> Asking<W>
-        ensures { result.job ≡ job }
+        ensures job { result.job ≡ job }
+        ensures over { IfSome result.end (λ end. end ≡ ExchangeEnd.NoMemory) }
     {
         match request_of(alloc, &job) {
             Ok(request) => Asking {
@@ -124,7 +126,8 @@ impl<W: Wire> Asking<W> {
         &self.attempt
     }
 
-    /// What was written for it begins its request, and nothing was written to a stream that was given up. It does nothing.
+    /// What was written for it begins its request, and nothing was written to a stream that was given up. It does
+    /// nothing.
     pub fn begun_law(&self)
         ensures { BeginsRequest (asked_for self.now) }
     {
@@ -132,7 +135,9 @@ impl<W: Wire> Asking<W> {
     }
 
     /// Whether there is an address that is to be tried.
-    pub fn has_others(&self) -> bool {
+    pub fn has_others(&self) -> bool
+        ensures { IsFalse result ↔ (next_of self.now.addresses ≡ []) }
+    {
         self.addresses.has_more()
     }
 
@@ -140,6 +145,7 @@ impl<W: Wire> Asking<W> {
     pub fn has_address(&mut self) -> bool
         ensures job { self.new.job ≡ self.old.job }
         ensures on { AsksOn (asked_for self.old) (asked_for self.new) }
+        ensures parsed { HasParsed self.old.job.job.address result self.old.addresses self.new.addresses }
     {
         self.addresses.parse(self.job.address())
     }
@@ -159,6 +165,7 @@ impl<W: Wire> Asking<W> {
     pub fn step(&mut self, edges: &mut Edges) -> Progress
         ensures job { self.new.job ≡ self.old.job }
         ensures on { AsksOn (asked_for self.old) (asked_for self.new) }
+        ensures over { (result ≡ Progress.Ended) ↔ (is_some self.new.end ≡ true) }
     {
         if self.end.is_some() {
             return Progress::Ended;
@@ -205,8 +212,8 @@ impl<W: Wire> Asking<W> {
 }
 
 impl<W: Wire + Drop> Asking<W> {
-    /// It goes over a stream to the next of its addresses from now on; unless it ended, or its stream took a byte. False where there is no
-    /// other address.
+    /// It goes over a stream to the next of its addresses from now on; unless it ended, or its stream took a byte.
+    /// False where there is no other address.
     pub fn connect<N: Network<W>>(&mut self, net: &mut N) -> bool
         ensures job { self.new.job ≡ self.old.job }
         ensures on { AsksOn (asked_for self.old) (asked_for self.new) }

@@ -184,7 +184,8 @@ impl<W: Wire> Attempt<W> {
 }
 
 impl<W: Wire + Drop> Attempt<W> {
-    /// It goes over this stream from now on, of which nothing was read or written. Answers the one before, if there was one.
+    /// It goes over this stream from now on, of which nothing was read or written. Answers the one before, if there
+    /// was one.
     pub(crate) fn connect(&mut self, stream: Backend<W>) -> Option<Backend<W>>
         requires { IsUntouched stream }
         ensures fresh { self.new ≡ attempt_value self.old.exchange (Some stream) false }

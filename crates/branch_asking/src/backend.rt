@@ -7,8 +7,8 @@ use std::marker::Model;
 use std::net::SocketAddr;
 use wires::{Got, Outbox, PIECE, Sent, Wire};
 
-/// A stream to a backend. Contracts see the address that it was connected to, what was read from it and written to it, and whether a read
-/// found its end, or failed.
+/// A stream to a backend. Contracts see the address that it was connected to, what was read from it and written to it,
+/// and whether a read found its end, or failed.
 #[derive(Drop)]
 pub(crate) struct Backend<W: Wire> {
     wire: W,

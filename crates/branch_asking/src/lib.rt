@@ -1,4 +1,5 @@
-//! Asks the backend of one branch in steps, none of which waits: over a stream to one of its addresses, and then to the next.
+//! Asks the backend of one branch in steps, none of which waits: over a stream to one of its addresses, and then to
+//! the next.
 #![tactic(auto)]
 
 mod addresses;

@@ -14,16 +14,16 @@ pub trait Network<W: Wire> {
     fn moment(&mut self) -> u64
         ensures told { told self.new ≡ told self.old ++ result ∷ [] };
 
-    /// Begins to connect to the address, over which a request of so many bytes will be written. Where it can't, the answer is a wire
-    /// whose first write fails.
+    /// Begins to connect to the address, over which a request of so many bytes will be written. Where it can't, the
+    /// answer is a wire whose first write fails.
     fn connect(&mut self, address: SocketAddr, length: usize) -> W
         ensures told { told self.new ≡ told self.old }
         ensures given { W.given result ≡ [] }
         ensures got { W.got result ≡ [] }
         ensures ended { W.ended result ≡ false };
 
-    /// Watches the wire: whenever bytes come, its end, or, with `writes`, room to write, a `Ready` of this token tells so once. False
-    /// where it can't.
+    /// Watches the wire: whenever bytes come, its end, or, with `writes`, room to write, a `Ready` of this token tells
+    /// so once. False where it can't.
     fn watch(&mut self, wire: &W, token: usize, writes: bool) -> bool
         ensures told { told self.new ≡ told self.old };
 

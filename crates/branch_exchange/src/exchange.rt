@@ -12,8 +12,8 @@ use wires::Outbox;
 /// So many reads are made for one reply at most.
 pub const MOST_READS: u32 = 131_072;
 
-/// A request, as far as it was written, and its reply, as far as it was read (RFC 9112). It does no input or output. Contracts see what
-/// is left of the request, and the reader of the reply.
+/// A request, as far as it was written, and its reply, as far as it was read (RFC 9112). It does no input or output.
+/// Contracts see what is left of the request, and the reader of the reply.
 #[derive(Drop)]
 pub struct Exchange {
     request: Outbox,
@@ -65,8 +65,9 @@ impl Exchange {
         self.request.sent(count);
     }
 
-    /// Takes a piece that was read. Answers once the reply is whole, or none will come: what follows the reply is dropped. A reply that
-    /// comes before its request was written whole is lost, and so is one that 131,072 pieces leave incomplete.
+    /// Takes a piece that was read. Answers once the reply is whole, or none will come: what follows the reply is
+    /// dropped. A reply that comes before its request was written whole is lost, and so is one that 131,072 pieces
+    /// leave incomplete.
     pub fn received(&mut self, piece: &[u8]) -> Option<ExchangeEnd>
         ensures left { self.new.left ≡ self.old.left }
         // Whatever was read before.

@@ -1,5 +1,5 @@
-//! One request to a backend and the one reply that comes, with no input or output of its own: whoever drives it writes what is left of
-//! the request, and hands in what was read.
+//! One request to a backend and the one reply that comes, with no input or output of its own: whoever drives it writes
+//! what is left of the request, and hands in what was read.
 #![tactic(auto)]
 
 mod asked;

@@ -1,5 +1,5 @@
 -- The branches of one call, as they are kept and as they are seen.
-use Rattle.call_contexts.proofs.Names.{◌≡◌, refl, sym, ap, ◌∙◌, ℕ, zero, suc, ◌<◌, List, [], ◌∷◌, ◌++◌, take, drop, Some, Bool, true, false, ⊎_elim, subst, arith, length, slice_set, not, if◌then◌else◌, map, filter, slice_index_or, All, list_any, cases_Bool, eq-eqb, ne_eqb, or_parts, All-nil, All-cons, All-head, All-tail, All-weaker, same_Some, Id, same, Life, Twig, Branch, Call, Standing, WithHooks, Slots, cause_in, seen, seen_conn, seen_call, seen_branches, on_branches, bare_call, IsBare, with_branches, with_standing, is_call, gone, IsPlaced, NoTwo, drop_twig, life_at, same_ctx, with_twigs, nat_tests}
+use Rattle.call_contexts.proofs.Names.{without, ◌≡◌, refl, sym, ap, ◌∙◌, ℕ, zero, suc, ◌<◌, List, [], ◌∷◌, ◌++◌, take, drop, Some, Bool, true, false, ⊎_elim, subst, arith, length, slice_set, not, if◌then◌else◌, map, filter, slice_index_or, All, list_any, cases_Bool, eq-eqb, ne_eqb, or_parts, All-nil, All-cons, All-head, All-tail, All-weaker, same_Some, Id, same, Life, Twig, Branch, Call, Standing, WithHooks, Slots, cause_in, seen, seen_conn, seen_call, seen_branches, on_branches, bare_call, IsBare, with_branches, with_standing, is_call, gone, IsPlaced, NoTwo, drop_twig, life_at, same_ctx, with_twigs, nat_tests}
 use Rattle.call_contexts.proofs.Hooking.{map_nil}
 use Rattle.call_contexts.proofs.Lists.{all_none, gone_first}
 use Rattle.call_contexts.proofs.Trees.{not_both, same_refl}
@@ -96,8 +96,8 @@ module _ {C V : Type 0} (id : Id) where
   turned_gone f [] = refl
   turned_gone f (c ∷ cs) = grind (arith, turned_gone f cs)
 
-  pub bare_gone : {H : Type 0} (v : WithHooks C V H) → gone id (with_standing (bare_call id v.standing) v) ≡ gone id v
-  bare_gone v = ap (λ cs. record { standing = record { drained = v.standing.drained; conns = v.standing.conns; calls = cs }; hooks = filter (λ p. not (same p.0 id)) v.hooks }) (turned_gone (λ c. []) v.standing.calls)
+  pub without_bare : (v : Standing C V) → without id (bare_call id v) ≡ without id v
+  without_bare v = ap (λ cs. record { drained = v.drained; conns = v.conns; calls = cs }) (turned_gone (λ c. []) v.calls)
 
 -- ---- what is seen
 

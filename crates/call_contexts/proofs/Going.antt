@@ -1,5 +1,5 @@
 -- The contexts of a call's branches go, one after the other, the last first.
-use Rattle.call_contexts.proofs.Names.{◌≡◌, refl, sym, ap, ◌∙◌, arith, ℕ, zero, suc, ◌<◌, List, [], ◌∷◌, length, subst, slice_set, slice_index_or, length-append, Id, Releases, TreeValue, StandsFor, AfterFuncs, Life, Twig, bare_call, seen, seen_branches, Op, BranchesGo, IsFree, IsPlaced, IsSound, IsWithout, names_of, nat_tests}
+use Rattle.call_contexts.proofs.Names.{◌≡◌, refl, sym, ap, ◌∙◌, arith, ℕ, zero, suc, ◌<◌, List, [], ◌∷◌, length, subst, slice_set, slice_index_or, length-append, Id, Releases, TreeValue, StandsFor, AfterFuncs, Life, Twig, bare_call, seen, seen_branches, Op, BranchesGo, IsFree, IsPlaced, IsSound, IsWithout, Name, names_of, nat_tests}
 use Rattle.call_contexts.proofs.Branches.{bare_turned}
 use Rattle.call_contexts.proofs.Branching.{same_set, seen_same, seen_taken, sound_taken}
 use Rattle.call_contexts.proofs.Order.{set_same}
@@ -27,6 +27,13 @@ placed_set : (id : Id) (i : ℕ) (x : Life) (ls : List Life) → i < length ls �
 placed_set id i x [] lt own = absurd (omega (arith, lt))
 placed_set id zero x (l ∷ ls) lt own = λ d. own
 placed_set id (suc i) x (l ∷ ls) lt own = placed_set id i x ls (omega (arith, lt)) own
+
+-- where the calls are the same but for their branches
+pub placed_named : (id : Id) (i : ℕ) (ls ms : List Life) → names_of ms ≡ names_of ls → i < length ls → IsPlaced id i ls → IsPlaced id i ms
+placed_named id i [] ms named lt own = absurd (omega (arith, lt))
+placed_named id i (l ∷ ls) [] named lt own = cc
+placed_named id zero (l ∷ ls) (m ∷ ms) named lt own = λ d. let e : (m.id, m.ctx) ≡ (l.id, l.ctx) = cc in ap (λ (n : Name). n.1) e ∙ own d
+placed_named id (suc i) (l ∷ ls) (m ∷ ms) named lt own = placed_named id i ls ms (let e : names_of ms ≡ names_of ls = cc in e) (omega (arith, lt)) own
 
 -- some of the call's branches are gone
 pub record SomeGone {C V H : Type 0} (id : Id) (place : ℕ) (old now : TreeValue C V) (f : AfterFuncs H) (base : Id) (conns : List Id) (calls left : List Life) : Type 0 where

@@ -2,13 +2,13 @@ ghost use Rattle.std.specs.Prelude.{All, ◌≡◌, ◌∷◌, [], ◌++◌, Lis
 ghost use Rattle.std.specs.List.{list_any};
 ghost use Rattle.std.specs.Option.{option_copied};
 ghost use Rattle.context_tree.specs.Context.{same};
-ghost use Rattle.call_contexts.specs.Standing.{IsNoSooner, AreNoSooner, has_deadline, has_ended, is_over, ended_branch, empty, opened, begun, expired, cancelled, all_ended, closed, gone, with_standing, with_hook, hook_for, request_for, ended_call, branched, unbranched, bare_call, AreApart, is_fresh, is_call, is_conn, call_for, ctx_for, first_of, IsCallOf};
+ghost use Rattle.call_contexts.specs.Standing.{IsNoSooner, AreNoSooner, has_deadline, has_ended, is_over, ended_branch, empty, opened, begun, expired, cancelled, all_ended, closed, gone, with_standing, with_hook, hook_for, request_for, ended_call, branched, unbranched, AreApart, is_fresh, is_call, is_conn, call_for, ctx_for, first_of, IsCallOf};
 ghost use Rattle.after_funcs.specs.Hooks.{Operation, AfterFunc, registered};
 ghost use Rattle.after_funcs.specs.Stands.{StandsFor as HooksStand};
 ghost use Rattle.call_contexts.specs.Index.{Sets, indexed};
 
-use crate::calls;
-use crate::contexts::{REQUEST_ID, cause_of, free, free_branches, make, release, tree_laws};
+use crate::calls::{self, take};
+use crate::contexts::{REQUEST_ID, cause_of, free, make, release, tree_laws};
 use crate::ends::first_ended;
 use crate::index::Index;
 use crate::life::Life;
@@ -190,8 +190,8 @@ impl<C: Copy, V: Drop, H: Drop> CallContexts<C, V, H> {
         self.tree.cancel(self.base, Some(cause));
     }
 
-    /// What ended the call, if it stands and anything did (Go `context`, `Cause`): its deadline, or what its connection or all
-    /// ended for.
+    /// What ended the call, if it stands and anything did (Go `context`, `Cause`): its deadline, or what its
+    /// connection or all ended for.
     pub fn ended(&self, id: &CallId) -> Option<Cause<C>>
         ensures { result ≡ ended_call id.now self.now.standing.calls }
     {
@@ -201,9 +201,9 @@ impl<C: Copy, V: Drop, H: Drop> CallContexts<C, V, H> {
         }
     }
 
-    /// The branch of the call which ended before the call, or while that has not: of the deadlines of those that have ended, the
-    /// call's among them, it has the least, of equal ones the call's stands first, and then that of the branch that started
-    /// first. None where that is the call's, or no branch has ended.
+    /// The branch of the call which ended before the call, or while that has not: of the deadlines of those that have
+    /// ended, the call's among them, it has the least, of equal ones the call's stands first, and then that of the
+    /// branch that started first. None where that is the call's, or no branch has ended.
     pub fn ended_branch(&self, id: &CallId) -> Option<u32>
         ensures { result ≡ ended_branch id.now self.now.standing.calls }
     {
@@ -225,7 +225,8 @@ impl<C: Copy, V: Drop, H: Drop> CallContexts<C, V, H> {
         first_ended(&mut self.tree, &self.hooks, &self.calls)
     }
 
-    /// The least deadline of the calls and their branches that have not ended, if any has one: no moment before it ends one.
+    /// The least deadline of the calls and their branches that have not ended, if any has one: no moment before it
+    /// ends one.
     pub fn next_deadline(&self) -> Option<u64>
         ensures calls { All (IsNoSooner result) self.now.standing.calls }
         ensures branches { All (AreNoSooner result) self.now.standing.calls }
@@ -260,18 +261,8 @@ impl<C: Copy, V: Drop, H: Drop> CallContexts<C, V, H> {
         }
     }
 
-    /// Lets go of the contexts of all branches of a call.
-    fn let_branches_go(&mut self, call: CtxId)
-        ensures { self.new ≡ with_standing (bare_call call self.old.standing) self.old }
-    {
-        let Some(place) = calls::place(&self.calls, call) else {
-            return;
-        };
-        free_branches(&mut self.tree, &self.hooks, &mut self.calls, place);
-    }
-
-    /// Calls the hook of a call with what ended it, and lets go of its contexts and those of its branches. None where no
-    /// call has that context.
+    /// Calls the hook of a call with what ended it, and lets go of its contexts and those of its branches. None where
+    /// no call has that context.
     pub fn end<E: Drop, O>(&mut self, ctx: CtxId, event: E) -> Option<Result<O, AllocError>>
     where
         H: Hook<E, O>,
@@ -281,13 +272,17 @@ impl<C: Copy, V: Drop, H: Drop> CallContexts<C, V, H> {
         ensures ran { is_some result ≡ is_call ctx self.old.standing.calls }
         ensures left { self.new ≡ gone ctx self.old }
     {
-        self.let_branches_go(ctx);
-        let Some((_, holder)) = calls::take(&mut self.calls, &mut self.index, ctx) else {
+        let Some(_) = take(
+            &mut self.tree,
+            &self.hooks,
+            &mut self.calls,
+            &mut self.index,
+            ctx,
+        ) else {
             return None;
         };
         self.hooks.fire(ctx);
         let ran = self.hooks.run_next(event);
-        release(&mut self.tree, ctx, holder);
         match ran {
             Some((_, answer)) => Some(answer),
             None => None,
@@ -298,13 +293,17 @@ impl<C: Copy, V: Drop, H: Drop> CallContexts<C, V, H> {
     pub fn abandon(&mut self, ctx: CtxId)
         ensures { self.new ≡ gone ctx self.old }
     {
-        self.let_branches_go(ctx);
         order_law::<H>();
-        let Some((hook, holder)) = calls::take(&mut self.calls, &mut self.index, ctx) else {
+        let Some(hook) = take(
+            &mut self.tree,
+            &self.hooks,
+            &mut self.calls,
+            &mut self.index,
+            ctx,
+        ) else {
             return;
         };
         self.hooks.stop(hook);
-        release(&mut self.tree, ctx, holder);
     }
 
     /// Lets go of a connection's context, whose calls are gone.

@@ -1,13 +1,14 @@
 //! A list of calls, looked up by their contexts and by their ids.
-ghost use Rattle.std.specs.Prelude.{◌≡◌, ◌<◌, IfNone, IfSome, None as Nothing, filter, length, not, option_map};
-ghost use Rattle.context_tree.specs.Context.{same};
-ghost use Rattle.call_contexts.specs.Sound.{IsPlaced, Rising, life_at, life_for, names_of, numbers_of};
-ghost use Rattle.call_contexts.specs.Index.{IsIndexed, IsTaken};
+ghost use Rattle.std.specs.Prelude.{◌≡◌, ◌<◌, List, IfNone, IfSome, None as Nothing, length, option_map};
+ghost use Rattle.context_tree.specs.Context.{Id};
+ghost use Rattle.call_contexts.specs.Sound.{IsPlaced, IsSound, Rising, life_at, life_for, names_of, numbers_of};
+ghost use Rattle.call_contexts.specs.Index.{HasLeft, IsIndexed};
 
+use crate::contexts::{free_branches, release};
 use crate::index::Index;
 use crate::life::Life;
-use after_funcs::AfterId;
-use context_tree::CtxId;
+use after_funcs::{AfterFuncs, AfterId};
+use context_tree::{CtxId, Tree};
 use gateway_model::CallId;
 
 /// The call of that context.
@@ -37,24 +38,29 @@ pub(crate) fn place(calls: &[Life], ctx: CtxId) -> Option<usize>
     }
 }
 
-/// Takes the call of that context out of the list and the index, if it stands there, and gives its hook and the context that
-/// has its request id.
-pub(crate) fn take(
+/// Takes the call of that context out of the list and the index, if it stands there, lets go of its contexts and those
+/// of its branches, and gives its hook.
+pub(crate) fn take<C: Copy, V: Drop, H>(
+    tree: &mut Tree<C, V>,
+    hooks: &AfterFuncs<H>,
     calls: &mut Vec<Life>,
     index: &mut Index,
     ctx: CtxId,
-) -> Option<(AfterId, Option<CtxId>)>
+) -> Option<AfterId>
     requires { Rising (numbers_of calls.old.items) }
-    ensures taken { IfSome result (λ r. IsTaken ctx r.0 r.1 calls.old.items index.old index.new) }
-    ensures left { IfSome result (λ r. calls.new.items ≡ filter (λ l. not (same l.ctx ctx)) calls.old.items) }
+    ensures left { IfSome result (λ hook. (base : Id) (conns : List Id) → IsSound tree.old hooks.now base conns calls.old.items
+        → HasLeft ctx hook tree.old tree.new hooks.now base conns calls.old.items calls.new.items index.old index.new) }
     ensures none { IfNone result (life_at ctx calls.old.items ≡ Nothing) }
+    ensures same_tree { IfNone result (tree.new ≡ tree.old) }
     ensures same_calls { IfNone result (calls.new.items ≡ calls.old.items) }
     ensures same_index { IfNone result (index.new ≡ index.old) }
 {
     let place = place(calls, ctx)?;
+    free_branches(tree, hooks, calls, place);
     let life = calls.remove(place);
     index.forget(&life.id);
-    Some((life.hook, life.holder))
+    release(tree, ctx, life.holder);
+    Some(life.hook)
 }
 
 /// The call of that id.

@@ -94,7 +94,8 @@ pub(crate) fn free_branches<C: Copy, V: Drop, H>(
     place: usize,
 )
     requires { place < length calls.old.items }
-    ensures { (base : Id) (conns : List Id) (id : Id) → IsSound tree.old hooks.now base conns calls.old.items → IsPlaced id place calls.old.items
+    ensures length { length calls.new.items ≡ length calls.old.items }
+    ensures gone { (base : Id) (conns : List Id) (id : Id) → IsSound tree.old hooks.now base conns calls.old.items → IsPlaced id place calls.old.items
         → BranchesGo id tree.old tree.new hooks.now base conns calls.old.items calls.new.items }
 {
     // the clause alone looks at the hooks

@@ -10,8 +10,8 @@ use after_funcs::AfterFuncs;
 use context_tree::{CtxId, Tree};
 use gateway_model::CallId;
 
-/// The first of these calls of which a context ended, its own or a branch's, in the order of their endings. Other contexts
-/// that ended before it are passed over for good.
+/// The first of these calls of which a context ended, its own or a branch's, in the order of their endings. Other
+/// contexts that ended before it are passed over for good.
 pub(crate) fn first_ended<C: Copy, V: Drop, H>(
     tree: &mut Tree<C, V>,
     hooks: &AfterFuncs<H>,

@@ -3,8 +3,8 @@ use after_funcs::AfterId;
 use context_tree::CtxId;
 use gateway_model::CallId;
 
-/// A call that stands, by its id: its context, the one that has its request id, that of its connection, when it ends by itself,
-/// its hook, and its branches that are out and have a timeout.
+/// A call that stands, by its id: its context, the one that has its request id, that of its connection, when it ends
+/// by itself, its hook, and its branches that are out and have a timeout.
 #[derive(Drop)]
 pub(crate) struct Life {
     pub(crate) id: CallId,

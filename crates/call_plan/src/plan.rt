@@ -83,8 +83,8 @@ impl Plan {
         self.timeout_ms
     }
 
-    /// How long the branch of that number may take from its start, in milliseconds, 1 to 9,999,999,999, if it has a time
-    /// of its own.
+    /// How long the branch of that number may take from its start, in milliseconds, 1 to 9,999,999,999, if it has a
+    /// time of its own.
     pub fn branch_timeout(&self, branch: usize) -> Option<u64>
         ensures timeout { result ≡ time_of self.now branch }
         ensures range { IfSome result (λ ms. (1 ≤ ms) × (ms ≤ MAX_DECIMAL)) }

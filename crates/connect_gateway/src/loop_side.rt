@@ -92,10 +92,13 @@ impl LoopSide {
 
     /// Hands something in, and wakes the loop. Hands it back where the loop is over, and where there is no memory.
     pub(crate) fn hand_in<R: Wait>(&self, rt: &R, mail: Mail) -> Result<(), Mail> {
-        let sent = self.mail.send(rt, mail);
-        sent.map_err(|refused| refused.into_inner())?;
-        self.wake();
-        Ok(())
+        match self.mail.send(rt, mail) {
+            Ok(()) => {
+                self.wake();
+                Ok(())
+            }
+            Err(refused) => Err(refused.into_inner()),
+        }
     }
 
     /// No more streams will come: the loop ends once its clients have gone.
@@ -172,12 +175,12 @@ impl Name {
     }
 }
 
-/// Where names are handed in to be looked up, if there are any, by threads of their own, since the system offers no look-up
-/// that does not wait.
+/// Where names are handed in to be looked up, if there are any, by threads of their own, since the system offers no
+/// look-up that does not wait.
 ///
-/// The threads end with all copies of that, and are never joined: a look-up takes as long as the system's servers of names let
-/// it, and the program's end waits for none. A thread that still runs when `main` returns is cut off by the system, and what it
-/// holds is its own.
+/// The threads end with all copies of that, and are never joined: a look-up takes as long as the system's servers of
+/// names let it, and the program's end waits for none. A thread that still runs when `main` returns is cut off by the
+/// system, and what it holds is its own.
 pub(crate) fn resolver<M: NetHost>(
     rt: M,
     alloc: Global,

@@ -3,17 +3,17 @@ use crate::dealer::Dealer;
 use crate::host::{Host, NetHost, SinceStart};
 use crate::log_writer::LogWriter;
 use crate::loop_log::LogLines;
-use crate::loop_side::resolver;
+use crate::loop_side::{LoopSide, Name, resolver};
 use crate::looping::{Common, Looping};
 use crate::start_log::StartLog;
 use admin::{Drain, ServedNames};
 use call_plan::Plans;
 use command_line::{Admin, Log, Service};
-use crossbeam_channel::{Receiver, unbounded};
+use crossbeam_channel::{Receiver, Sender, unbounded};
 use input_files::PlanFile;
 use libc::types::rlimit;
 use libc::{RLIMIT_NOFILE, getrlimit};
-use mio::net;
+use mio::{Waker, net};
 use script_replay::Fault;
 use std::alloc::{AllocError, Global};
 use std::fs::{File, Files};
@@ -71,18 +71,30 @@ fn serve_plans<M: NetHost>(
     let clock = SinceStart::new(Instant::now(&rt)?);
     let (lines, writer) = LogWriter::new(alloc, service.log == Log::All)?;
     let dealer = dealer(rt, alloc, log, clock, service, &plans.names, &lines)?;
+    let (looked_up, main) = links(rt, alloc, plans.looks_up, &dealer.waits.waker)?;
     let common = Common {
         rt,
         alloc,
         clock,
-        looked_up: resolver(rt, alloc, plans.looks_up)?,
+        looked_up,
         lines: (service.log != Log::Off).then_some(lines),
         names: service.admin.is_some().then_some(plans.names),
-        main: Arc::try_clone(&dealer.waker)?,
+        main,
     };
     log.listens(service, plans.count);
     let most = service.connections.unwrap_or(u64::MAX);
     serve_with(common, dealer, plans.of_workers, most, writer)
+}
+
+/// Where loops hand in names to be looked up, and what they wake main with.
+fn links<M: NetHost>(
+    rt: M,
+    alloc: Global,
+    looks_up: bool,
+    waker: &Arc<Waker>,
+) -> Result<(Sender<Name>, Arc<Waker>), AllocError> {
+    let looked_up = resolver(rt, alloc, looks_up)?;
+    Ok((looked_up, Arc::try_clone(waker)?))
 }
 
 /// What a plan file gives to those who serve it.
@@ -128,12 +140,17 @@ fn dealer<M: NetHost>(
     names: &Arc<ServedNames>,
     lines: &LogLines,
 ) -> Result<Dealer<M>, Fault> {
+    let told = if service.log == Log::Off {
+        None
+    } else {
+        Some(lines.try_clone()?)
+    };
     let listener = listen(&rt, log, service.listen.as_str())?;
-    let admin = service.admin.as_ref();
-    let door = admin.map(|admin| open_door(&rt, log, alloc, admin, names, lines));
-    let door = door.transpose()?;
-    let told = (service.log != Log::Off).then(|| lines.try_clone());
-    Dealer::new(rt, alloc, clock, listener, door, told.transpose()?)
+    let door = match &service.admin {
+        Some(admin) => Some(open_door(&rt, log, alloc, admin, names, lines)?),
+        None => None,
+    };
+    Dealer::new(rt, alloc, clock, listener, door, told)
 }
 
 /// Warns where fewer descriptors are allowed than so many workers may need (docs/OPERATING.md).
@@ -229,11 +246,7 @@ fn serve_with<M: NetHost>(
     let has_log = common.lines.is_some();
     let mut dealer = dealer;
     let mut writer = writer;
-    let loopings = loopings(&common, plans)?;
-    for looping in &loopings {
-        dealer.sides.push(Arc::try_clone(&looping.side)?)?;
-        writer.add(&looping.side)?;
-    }
+    let loopings = loopings(&common, plans, &mut dealer.sides, &mut writer)?;
     let rt = common.rt;
     let alloc = common.alloc;
     // the log ends with the last loop
@@ -271,12 +284,18 @@ fn serve_by<M: NetHost>(
     }
 }
 
-/// A loop for each of these plans.
-fn loopings<M: NetHost>(common: &Common<M>, plans: Vec<Plans>) -> Result<Vec<Looping<M>>, Fault> {
+/// A loop for each of these plans. What each shares with other threads is added to these sides, and told the writer.
+fn loopings<M: NetHost>(
+    common: &Common<M>,
+    plans: Vec<Plans>,
+    sides: &mut Vec<Arc<LoopSide>>,
+    writer: &mut LogWriter,
+) -> Result<Vec<Looping<M>>, Fault> {
     let mut loopings = Vec::new(common.alloc);
     for (worker, plans) in (0..u32::MAX).zip(plans) {
-        loopings.push(Looping::new(common, worker, plans)?)?;
+        loopings.push(Looping::new(common, worker, plans, sides)?)?;
     }
+    writer.tell_of(sides)?;
     Ok(loopings)
 }
 
@@ -290,8 +309,8 @@ struct Crew {
 }
 
 impl Crew {
-    /// Starts a thread that writes the log, if there is one, and one for each loop. Those that started are in the crew, also where it
-    /// fails.
+    /// Starts a thread that writes the log, if there is one, and one for each loop. Those that started are in the
+    /// crew, also where it fails.
     fn start<M: NetHost>(
         &mut self,
         rt: M,
@@ -300,9 +319,7 @@ impl Crew {
         writer: Option<LogWriter>,
     ) -> Result<(), AllocError> {
         if let Some(writer) = writer {
-            let (done, written) = unbounded(alloc)?;
-            drop(thread::spawn(&rt, move || writer.run(&rt, done))?);
-            self.written = Some(written);
+            self.start_writer(rt, alloc, writer)?;
         }
         self.loops.reserve(loopings.len())?;
         for looping in loopings {
@@ -312,8 +329,21 @@ impl Crew {
         Ok(())
     }
 
-    /// Waits until all loops have ended, to which nobody deals any more, and then for a second at most until the log is written.
-    /// Answers whether the clients of one loop at least have all gone.
+    /// Starts the thread that writes the log.
+    fn start_writer<M: NetHost>(
+        &mut self,
+        rt: M,
+        alloc: Global,
+        writer: LogWriter,
+    ) -> Result<(), AllocError> {
+        let (done, written) = unbounded(alloc)?;
+        drop(thread::spawn(&rt, move || writer.run(&rt, done))?);
+        self.written = Some(written);
+        Ok(())
+    }
+
+    /// Waits until all loops have ended, to which nobody deals any more, and then for a second at most until the log
+    /// is written. Answers whether the clients of one loop at least have all gone.
     fn end<M: Host>(self, rt: &M) -> bool {
         let Crew { loops, written } = self;
         let mut are_gone = false;

@@ -38,7 +38,7 @@ impl Socket {
     pub(crate) fn to_backend<R: Net>(rt: &R, address: SocketAddr, length: usize) -> Socket {
         Socket {
             seat: None,
-            stream: connect(rt, address, length).map_err(|error| kind_of(&error)),
+            stream: connect(rt, address, length).map_err(kind_of),
         }
     }
 
@@ -63,7 +63,7 @@ fn connect<R: Net>(rt: &R, address: SocketAddr, length: usize) -> io::Result<Tcp
 }
 
 /// The kind of a failed connection. `QuotaExceeded` where the program or the system has no descriptor left.
-fn kind_of(error: &io::Error) -> ErrorKind {
+fn kind_of(error: io::Error) -> ErrorKind {
     match error.raw_os_error() {
         Some(EMFILE | ENFILE) => ErrorKind::QuotaExceeded,
         _ => error.kind(),

@@ -16,7 +16,6 @@ const MOST_READS: u32 = 64;
 const MOST_WRITES: u32 = 1_024;
 
 /// Who came to the address for operators: asks once, and is answered once.
-#[derive(Drop)]
 pub(crate) struct Visitor {
     stream: TcpStream,
     reader: Reader,
@@ -28,6 +27,21 @@ pub(crate) struct Visitor {
     pub(crate) until: u64,
 }
 
+// by hand, so that a drop is one call, where a derived one is written out at each return
+impl Drop for Visitor {
+    fn drop(self) {
+        let Visitor {
+            stream: _,
+            reader: _,
+            outbox: _,
+            has_asked: _,
+            has_ended: _,
+            is_shut: _,
+            until: _,
+        } = self;
+    }
+}
+
 // Clauses see nothing of it, which keeps proofs small.
 impl Model for Visitor {
     ghost Value = { ⊤ };
@@ -36,7 +50,7 @@ impl Model for Visitor {
 }
 
 /// What looking at a visitor came to.
-#[derive(Clone, Copy, PartialEq, Eq, Debug)]
+#[derive(Clone, Copy, PartialEq, Eq)]
 pub(crate) enum Seen {
     /// It may stay.
     Stays,
@@ -70,7 +84,8 @@ impl Visitor {
         self.outbox = Outbox::of(bytes);
     }
 
-    /// Reads what is there, until it asks for something. What comes behind that is dropped, so that its answer is not lost with it.
+    /// Reads what is there, until it asks for something. What comes behind that is dropped, so that its answer is not
+    /// lost with it.
     pub(crate) fn hear(&mut self) -> Seen {
         for _read in 0..MOST_READS {
             let mut piece = [0u8; PIECE];

@@ -121,8 +121,8 @@ pub trait Clock {
     fn pause<R: time::Clock + Wait>(&mut self, rt: &R);
 }
 
-/// Hands the moments of a clock to the gateway, one at each turn, each in one hold of the lock, until that is shut. Between two
-/// turns the clock pauses.
+/// Hands the moments of a clock to the gateway, one at each turn, each in one hold of the lock, until that is shut.
+/// Between two turns the clock pauses.
 pub fn clock_side<H: ReplyHook + Drop, L: Ledger, J: Ledger, K: Ledger>(
     rt: &(impl time::Clock + Wait),
     clock: &mut impl Clock,

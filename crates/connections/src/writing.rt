@@ -33,9 +33,9 @@ pub trait ReplyQueue {
 }
 
 /// Writes the replies that the queue gives, to requests 0, 1, .. of the connection, and gives back those that were
-/// written, the last perhaps in part. It ends where the queue is over, where it gives a reply to another request, and at
-/// a write that fails or takes nothing; and then it closes the queue, once. Room to give a reply back is made before it
-/// is written: where memory is refused, it ends as at a failed write.
+/// written, the last perhaps in part. It ends where the queue is over, where it gives a reply to another request, and
+/// at a write that fails or takes nothing; and then it closes the queue, once. Room to give a reply back is made
+/// before it is written: where memory is refused, it ends as at a failed write.
 pub fn write_replies<R: Wait, W: Write, Q: ReplyQueue>(
     rt: &R,
     alloc: Global,

@@ -22,8 +22,8 @@ pub(crate) fn add_new<C: Copy>(done: &mut Queue, id: CtxId, ending: Option<Endin
     }
 }
 
-/// The time at which a new context ends by itself, if it is not ended from the start and does not end as soon by what it
-/// follows.
+/// The time at which a new context ends by itself, if it is not ended from the start and does not end as soon by what
+/// it follows.
 pub(crate) fn time_of_new<C: Copy, V>(
     kind: &Kind<C, V>,
     ending: Option<Ending<C>>,

@@ -15,9 +15,9 @@ use slab::Slab;
 use timer_heap::Timers;
 use timer_heap::laws::first_due_law;
 
-/// Ends a context that is not ended, and those that follow it, and returns how many contexts it looked at: this one, and
-/// the children of each that it ended. Those that it ends wait to be handed out from then on, so their queue is also the
-/// list of those whose children are still to be looked at.
+/// Ends a context that is not ended, and those that follow it, and returns how many contexts it looked at: this one,
+/// and the children of each that it ended. Those that it ends wait to be handed out from then on, so their queue is
+/// also the list of those whose children are still to be looked at.
 pub(crate) fn end<C: Copy, V>(
     nodes: &mut Slab<Node<C, V>>,
     done: &mut Queue,

@@ -93,8 +93,8 @@ pub fn live_law<C, V>()
         → is_live t.slots x ≡ is_none (ending x past) }
 {}
 
-/// The links of a tree make a list of the children of each: from the first on each child is reached, and nothing else, and
-/// a later one was made later, so each is reached once.
+/// The links of a tree make a list of the children of each: from the first on each child is reached, and nothing else,
+/// and a later one was made later, so each is reached once.
 pub fn links_law()
     ensures all { (up : ℕ → Option ℕ) (number : ℕ → ℕ) (links : ℕ → Links) → AreLinked up number links
         → (k j : ℕ) → up j ≡ Some k → (i : ℕ) × (child_at links k i ≡ Some j) }

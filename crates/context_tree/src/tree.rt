@@ -209,8 +209,9 @@ impl<C: Copy, V: Drop> Tree<C, V> {
         self.timers.next()
     }
 
-    /// Hands out a context that is ended and not released, each once: one that an earlier operation ended before one that a
-    /// later one ended, and, of those that one operation ended, the one whose cancel or deadline it was before the others.
+    /// Hands out a context that is ended and not released, each once: one that an earlier operation ended before one
+    /// that a later one ended, and, of those that one operation ended, the one whose cancel or deadline it was before
+    /// the others.
     pub fn next_done(&mut self) -> Option<CtxId>
         ensures first { IfSome result (λ id. (past : List (TreeOp C V)) → StandsFor self.old past → IsFirstDone id past) }
         ensures handed { IfSome result (λ id. (past : List (TreeOp C V)) → StandsFor self.old past → StandsFor self.new (HandsOut id ∷ past)) }

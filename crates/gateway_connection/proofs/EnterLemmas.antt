@@ -1,11 +1,16 @@
 -- What comes on a connection's stream: its contexts, and what it makes of the connection.
-use Rattle.gateway_connection.specs.lemmas.Names.{◌≡◌, ℕ, ◌+◌, ◌≤◌, refl, sym, ap, ◌∙◌, List, [], ◌∷◌, ◌++◌, Option, Some, None, Bool, true, false, ⊎_elim, map, length, append-nil, subst, arith, filter, not, range_with_len, option_or, option_map_or, PlanRecord, HttpRequest, eq-eqb, or_parts, length-append, filter-append, list_any-append, most_requests, CallEvent, ReplyEntry, CallId, ArrivedCall, is_call, ContextsValue, KeepsOthers, LifeValue, begun, by_deadline, by_drain, contexts_value, ending_at, ending_life, ends_of, is_life, is_peer, life_by, others, without, HookedContexts, StocksStay, TakesAtMostOne, stock_in, begins, begun_live, ends_first, first_jobs, first_ones, first_out, KeptValue, gone, TaskValue, HeldConnection, step_to, Step, job_at, task_of, all_stay, or_true, ReplyValue, waiting, call_itself, Holds, entered_held, hears, next_held, asking, Arrives, Begins, Enters, MayFail, IsBegun, MayCome, event_for, first_started, life_in, linked_calls, none_over, IsTied, LeavesOthers, own_calls, Shared, JobsValue, nat_tests}
+use Rattle.gateway_connection.specs.lemmas.Names.{◌≡◌, ℕ, ◌+◌, ◌≤◌, refl, sym, ap, ◌∙◌, List, [], ◌∷◌, ◌++◌, Option, Some, None, Bool, true, false, ⊎_elim, map, length, append-nil, subst, arith, filter, not, range_with_len, option_or, option_map_or, PlanRecord, HttpRequest, eq-eqb, or_parts, length-append, filter-append, list_any-append, most_requests, CallEvent, ReplyEntry, CallId, ArrivedCall, is_call, ContextsValue, KeepsOthers, LifeValue, begun, by_deadline, by_drain, contexts_value, ending_at, ending_life, ends_of, is_life, is_peer, life_by, without, HookedContexts, StocksStay, TakesAtMostOne, stock_in, begins, begun_live, ends_first, first_jobs, first_ones, first_out, KeptValue, gone, TaskValue, HeldConnection, step_to, Step, job_at, task_of, all_stay, or_true, ReplyValue, waiting, call_itself, Holds, entered_held, hears, next_held, asking, Arrives, Begins, Enters, MayFail, IsBegun, MayCome, event_for, first_started, life_in, linked_calls, none_over, IsTied, LeavesOthers, own_calls, Shared, JobsValue, nat_tests, inl}
 use Rattle.connect_codec.specs.Verdict.{verdict_of}
 use Rattle.connect_codec.specs.declared.verdict.Verdict.TheVariants.{Ask}
 use Rattle.gateway_model.specs.Arrival.{Asks, Judged, arrival_by, arrival_of, plan_of}
 use Rattle.std.proofs.lemmas.Simd.{map-map}
+use Rattle.gateway_model.specs.declared.entry.ReplyEntry.TheVariants.{Refused}
+use Rattle.gateway_theory.specs.Replies.{reply_with}
+use Rattle.http_pieces.specs.declared.refusal.Refusal.{Refusal}
 use Rattle.gateway_connection.specs.lemmas.OwnContexts.{is_life_own, is_peer_own, keeps_leaves, others_taken}
 use Rattle.gateway_connection.specs.declared.arriving.Arriving.TheVariants.{Answered, Begins as BeginsCall}
+use Rattle.gateway_theory.specs.Held.{IsFault, begins_call}
+use Rattle.gateway_theory.specs.declared.fault.StepFault.{StepFault}
 use Rattle.gateway_connection.proofs.HoldsLemmas.{next_new}
 use Rattle.gateway_connection.proofs.LentLemmas.{rest_none}
 use Rattle.gateway_connection.proofs.LinkedLemmas.{calls_append, none_life}
@@ -211,6 +216,10 @@ module _ {H : Type 0} (k : HeldConnection) (a b : Shared H) (s : Step) where
     pub begins_fails : (c : Shared H) → c ≡ b → MayFail k k a c
     begins_fails c same = grind (arith, nat_tests, begun_is, lent_begun, lent_moment, append-nil, begins_others)
 
+    -- .. for this fault
+    pub begins_faults : (f : StepFault) → IsFault f b.begun true → IsFault f a.begun (begins_call s)
+    begins_faults f is = subst (λ n. IsFault f n (begins_call s)) (lent_begun at.rest) (subst (IsFault f b.begun) (sym (ap begins_call at.comes)) is)
+
     -- it is kept
     pub begins_enters : (l : HeldConnection) (c : Shared H) → Begins (begins b.moment None (next_held k) asked) k l b c → Enters s k l a c
     begins_enters l c kept = by (subst (λ m. Begins (begins m None (next_held k) asked) k l b c) (lent_moment at.rest) kept)
@@ -231,3 +240,9 @@ module _ {H : Type 0} (k : HeldConnection) (a b : Shared H) (s : Step) where
             others = subst (LeavesOthers k.number a.contexts) (sym (ap (λ (x : Shared H). x.contexts) made.rest)) begins_others;
           };
         })
+
+-- its stream is refused
+pub refused_enters : {H : Type 0} (k l : HeldConnection) (s : Shared H) (refusal : Refusal) → MayCome k s → l ≡ entered_held (step_to gone (Some (Refused refusal)) []) k
+    → Enters (step_to gone (Some (Refused refusal)) []) k l s s
+refused_enters k l s refusal may is =
+    answered_enters k s s (step_to gone (Some (Refused refusal)) []) (reply_with (next_held k) (Refused refusal)) may (record { comes = (refl, refl); contexts = refl; hooks = λ other stock there. inl there; rest = refl }) l is

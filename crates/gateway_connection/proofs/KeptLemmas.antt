@@ -1,12 +1,13 @@
 -- A kept call: as many tasks are active as branches are out, and those that wait are the ones that have not started.
-use Rattle.gateway_connection.specs.lemmas.Names.{◌≡◌, ℕ, ◌+◌, ◌≤◌, ◌<◌, ◌-◌, Bool, true, false, List, [], ◌∷◌, ◌++◌, map, length, drop, Option, None, Some, Result, Ok, Err, refl, sym, ap, ◌∙◌, subst, arith, slice_index_or, ◌⊎◌, All, All-nil, if◌then◌else◌, ◌==◌, slice_set, slice_get, option_map, option_to_list, inl, inr, count_by, list_any, nat_lt, ne_eqb, eqb-true, get_or-set_other, length-set, length-append, lt-ltb, sum_by-cons, sum_by-set, Outcome, CallEvent, CallId, CallRecord, task_of, job_at, TaskValue, KeptValue, ArrivedCall, IsLawful, record_of, deadlines_next, result_on, next_out, rest_of, first_of, LiveValue, live_value, kept_value, started_of, IsGoing, IsKept, IsStep, nat_tests}
+use Rattle.gateway_connection.specs.lemmas.Names.{◌≡◌, ℕ, ◌+◌, ◌≤◌, ◌<◌, ◌-◌, Bool, true, false, List, [], ◌∷◌, ◌++◌, map, length, drop, Option, None, Some, Result, Ok, Err, refl, sym, ap, ◌∙◌, subst, arith, slice_index_or, ◌⊎◌, All, All-nil, if◌then◌else◌, ◌==◌, slice_set, slice_get, option_map, option_to_list, inl, inr, count_by, list_any, nat_lt, ne_eqb, eqb-true, get_or-set_other, length-set, length-append, lt-ltb, sum_by-cons, sum_by-set, Outcome, CallEvent, CallId, CallRecord, task_of, job_at, TaskValue, KeptValue, ArrivedCall, IsLawful, record_of, deadlines_next, result_on, next_out, rest_of, first_of, LiveValue, live_value, kept_value, started_of, IsGoing, IsKept, IsStep, nat_tests, Live, ContextsValue, branch_started, passed_by, passed_on, deadline_from}
 use Rattle.std.specs.Prelude.{cond}
-use Rattle.connect_codec.specs.declared.answer.Outcome.TheVariants.{Answer}
+use Rattle.connect_codec.specs.declared.answer.Outcome.TheVariants.{Answer, Fail}
 use Rattle.err_group.specs.GroupState.{GroupState, Finishes, freed_by}
 use Rattle.gateway_model.specs.declared.call_event.CallEvent.TheVariants.{Answer as Answered}
 use Rattle.gateway_model.specs.Job.{JobValue}
 use Rattle.gateway_theory.specs.LiveStands.{tasks_from}
-use Rattle.gateway_theory.specs.Step.{ended, kept}
+use Rattle.gateway_replies.specs.Contexts.{finished}
+use Rattle.gateway_theory.specs.Step.{ended, is_last_answer, kept}
 use Rattle.gateway_theory.specs.Values.{call_state}
 use Rattle.gateway_connection.specs.KeptCall.{live_of}
 use Rattle.gateway_theory.specs.lemmas.StepLemmas.{tasks_none, tasks_next}
@@ -196,3 +197,24 @@ pub going_step : (moment : ℕ) (old : KeptValue) (id : CallId) (out after : Lis
     → after ≡ next_out (option_to_list next) (slice_set out i false) → later ≡ live_value l.asked (l.events ++ Answered i body ∷ []) (l.deadlines ++ deadlines_next moment (option_to_list next))
     → IsStep moment old (kept_value id after h.queue (Some later)) None next (result_on moment i outcome (slice_set old.call.out i false) old.call.live)
 going_step moment old id out after i body g h was l later next outcome old_is k was_is it outcome_is last next_as finishes after_is later_is = grind (arith, nat_tests, next_is, some_active, outs_next, times_next, rest_next, jobs_next, first_its)
+
+-- ---- the contexts of its branches
+
+-- where it can't be decided any more, a result leaves them
+pub passed_late : (moment branch : ℕ) (o : Outcome) (k : KeptValue) (x : ContextsValue) → k.call.live ≡ None → x ≡ passed_on moment branch o k x
+passed_late moment branch (Fail error) k x none = refl
+passed_late moment branch (Answer body) k x none = sym (ap (λ l. passed_by moment branch k.id l x) none)
+
+-- the last answer does, too
+pub passed_last : (moment branch : ℕ) (o : Outcome) (body : List ℕ) (k : KeptValue) (l : Live) (x : ContextsValue) → o ≡ Answer body → k.call.live ≡ Some l → is_last_answer l ≡ true
+    → x ≡ passed_on moment branch o k x
+passed_last moment branch o body k l x o_is live last = sym (ap (λ p. passed_on moment branch p k x) o_is ∙ ap (λ m. passed_by moment branch k.id m x) live
+    ∙ ap (λ b. if b then x else finished k.id branch (branch_started k.id (length l.deadlines) (deadline_from moment l.asked.plan (length l.deadlines)) x)) last)
+
+-- at another the next branch gets its own, and that of the one which answered goes
+pub passed_next : (moment branch : ℕ) (o : Outcome) (body : List ℕ) (k : KeptValue) (l : Live) (n : ℕ) (d : Option ℕ) (x y z : ContextsValue) → o ≡ Answer body → k.call.live ≡ Some l → is_last_answer l ≡ false
+    → n ≡ length l.deadlines → d ≡ deadline_from moment l.asked.plan (length l.deadlines) → y ≡ branch_started k.id n d x → z ≡ finished k.id branch y → z ≡ passed_on moment branch o k x
+passed_next moment branch o body k l n d x y z o_is live going n_is d_is y_is z_is =
+    z_is ∙ ap (finished k.id branch) (y_is ∙ ap (λ m. branch_started k.id m d x) n_is ∙ ap (λ e. branch_started k.id (length l.deadlines) e x) d_is)
+    ∙ sym (ap (λ p. passed_on moment branch p k x) o_is ∙ ap (λ m. passed_by moment branch k.id m x) live
+    ∙ ap (λ b. if b then x else finished k.id branch (branch_started k.id (length l.deadlines) (deadline_from moment l.asked.plan (length l.deadlines)) x)) going)

@@ -14,3 +14,4 @@ pub mod LentLemmas
 pub mod BroadcastLemmas
 pub mod TakenLemmas
 pub mod StreamLemmas
+pub mod ResultLemmas

@@ -1,5 +1,5 @@
 -- What a connection's reader read.
-use Rattle.gateway_connection.specs.lemmas.Names.{◌≡◌, ℕ, ◌+◌, ◌≤◌, ◌<◌, refl, sym, ap, ◌∙◌, List, [], ◌∷◌, ◌++◌, Option, Some, None, Ok, Err, true, false, length, subst, arith, take, inl, inr, ◌⊎◌, IfNone, IfSome, MatchOption, length-append, HasRead, ReaderValue, Reading, Stopped, Waiting, after_request, state_of, HttpRequest, most_requests, PlanRecord, Coming, HasBrought, MayGive, ReadsOn, arriving_in, broken_held, coming_of, hears, hung_held, next_held, read_held, broke, came, read, unread, HeldConnection, HungUp, told, HookedContexts, KeepsHooks, Brings, BringsNone, Feeds, ReadsAll, ReadsNone, LeavesRest, MayStep, none_over, over_by, IsTied, Shared, nat_tests}
+use Rattle.gateway_connection.specs.lemmas.Names.{◌≡◌, ℕ, ◌+◌, ◌≤◌, ◌<◌, refl, sym, ap, ◌∙◌, List, [], ◌∷◌, ◌++◌, Option, Some, None, Ok, Err, true, false, length, subst, arith, take, inl, inr, ◌⊎◌, IfNone, IfSome, MatchOption, length-append, HasRead, ReaderValue, Reading, Stopped, Waiting, after_request, state_of, HttpRequest, most_requests, PlanRecord, Coming, HasBrought, MayGive, ReadsOn, arriving_in, broken_held, coming_of, hears, hung_held, next_held, read_held, broke, came, read, HeldConnection, HungUp, told, HookedContexts, KeepsHooks, Brings, BringsNone, Feeds, ReadsAll, ReadsNone, LeavesRest, MayStep, none_over, over_by, IsTied, Shared, nat_tests}
 use Rattle.http_pieces.specs.Reader.{is_over}
 use Rattle.http_pieces.specs.declared.refusal.Refusal.{Refusal}
 use Rattle.http_pieces.specs.declared.state.State.TheVariants.{Refused as StateRefused}

@@ -3,6 +3,7 @@ ghost use Rattle.gateway_model.specs.Past.{smaller};
 ghost use Rattle.gateway_theory.specs.Task.{job_at, left_at};
 
 use crate::task::Task;
+use call_plan::Branch;
 use gateway_model::CallId;
 use std::marker::Model;
 use std::sync::Arc;
@@ -70,31 +71,34 @@ impl Job {
         self.task.asked.plan.path()
     }
 
+    /// The branch as its plan has it.
+    fn planned(&self) -> &Branch
+        ensures name { result.now.name ≡ self.now.job.branch_name }
+        ensures address { result.now.address ≡ self.now.job.address }
+        ensures path { result.now.path ≡ self.now.job.path }
+    {
+        &self.task.asked.plan.branches()[self.task.branch as usize]
+    }
+
     /// The name of the branch.
     pub fn branch_name(&self) -> &str
         ensures { result.now ≡ self.now.job.branch_name }
     {
-        self.task.asked.plan.branches()[self.task.branch as usize]
-            .name
-            .as_str()
+        self.planned().name.as_str()
     }
 
     /// The backend's address, `host:port`.
     pub fn address(&self) -> &str
         ensures { result.now ≡ self.now.job.address }
     {
-        self.task.asked.plan.branches()[self.task.branch as usize]
-            .address
-            .as_str()
+        self.planned().address.as_str()
     }
 
     /// The path to ask for.
     pub fn path(&self) -> &str
         ensures { result.now ≡ self.now.job.path }
     {
-        self.task.asked.plan.branches()[self.task.branch as usize]
-            .path
-            .as_str()
+        self.planned().path.as_str()
     }
 
     /// The body of the caller's request, to be sent on byte for byte.
@@ -114,8 +118,8 @@ impl Job {
         }
     }
 
-    /// How long the branch had as it started, in milliseconds: until its own deadline or its call's, whichever comes first. None if
-    /// neither has one.
+    /// How long the branch had as it started, in milliseconds: until its own deadline or its call's, whichever comes
+    /// first. None if neither has one.
     pub fn remaining(&self) -> Option<u64>
         ensures { result ≡ self.now.job.remaining }
     {
@@ -125,8 +129,8 @@ impl Job {
         }
     }
 
-    /// The branch's own deadline or its call's, whichever comes first: a moment, in milliseconds. `remaining` is what was left of it
-    /// as the branch started.
+    /// The branch's own deadline or its call's, whichever comes first: a moment, in milliseconds. `remaining` is what
+    /// was left of it as the branch started.
     pub fn deadline(&self) -> Option<u64>
         ensures deadline { result ≡ self.now.job.deadline }
         ensures left { (start : ℕ) × (self.now.job.remaining ≡ left_at start result) }

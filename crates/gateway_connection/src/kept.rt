@@ -118,8 +118,9 @@ impl Kept {
         }
     }
 
-    /// The contexts of its branches, as a result of this one comes at this moment: where an answer leaves others open, the next
-    /// branch gets its own, if it has a time, and then that of the one which answered goes. At a refusal nothing changes.
+    /// The contexts of its branches, as a result of this one comes at this moment: where an answer leaves others open,
+    /// the next branch gets its own, if it has a time, and then that of the one which answered goes. At a refusal
+    /// nothing changes.
     pub(crate) fn pass_on<H: ReplyHook + Drop>(
         &self,
         contexts: &mut Contexts<H>,
@@ -134,21 +135,20 @@ impl Kept {
         ensures live { OnErr result (is_some self.now.call.live ≡ true) }
         ensures stocks { contexts.new.stocks ≡ contexts.old.stocks }
     {
-        match (&self.live, outcome) {
-            (Some(live), Outcome::Answer(_)) => {
-                if live.is_last_answer() {
-                    return Ok(());
-                }
-                let (next, deadline) = live.next(moment);
-                start_branch(contexts, &self.id, next, deadline, moment)?;
-                contexts.finish(&self.id, branch);
-                Ok(())
-            }
-            (Some(_), Outcome::Fail(_)) | (None, _) => Ok(()),
+        let (Some(live), Outcome::Answer(_)) = (&self.live, outcome) else {
+            return Ok(());
+        };
+        if live.is_last_answer() {
+            return Ok(());
         }
+        let (next, deadline) = live.next(moment);
+        start_branch(contexts, &self.id, next, deadline, moment)?;
+        contexts.finish(&self.id, branch);
+        Ok(())
     }
 
-    /// While it can be decided, its branches that have not started wait in declared order, and are not out. It does nothing.
+    /// While it can be decided, its branches that have not started wait in declared order, and are not out. It does
+    /// nothing.
     pub(crate) fn going_law(&self)
         ensures { (l : Going) → self.now.call.live ≡ Some l → GoesOn self.now.id self.now.call.out l }
     {
@@ -163,13 +163,17 @@ impl Kept {
     {
         let live = self.live.take();
         self.out[branch as usize] = false;
-        match (live, outcome) {
+        let Some(mut live) = live else {
+            // by hand: one call, where a drop at the return is a match over all that an outcome can be
+            drop(outcome);
             // none waits any more
-            (None, _) => AfterResult {
+            return AfterResult {
                 decided: None,
                 next: self.group.done(Err(())).next,
-            },
-            (Some(live), Outcome::Fail(error)) => {
+            };
+        };
+        match outcome {
+            Outcome::Fail(error) => {
                 self.group.clear_queue();
                 let next = self.group.done(Err(())).next;
                 AfterResult {
@@ -177,7 +181,7 @@ impl Kept {
                     next,
                 }
             }
-            (Some(mut live), Outcome::Answer(body)) => {
+            Outcome::Answer(body) => {
                 let next = self.group.done(Ok(())).next;
                 live.start(&next, moment);
                 let answer = CallEvent::Answer(branch, body);

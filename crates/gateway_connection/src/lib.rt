@@ -1,5 +1,5 @@
-//! A connection: its stream's reader, the slots of its replies, its calls with their contexts and hooks, and what each occurrence makes
-//! of them. It lives by what the gateway lends it.
+//! A connection: its stream's reader, the slots of its replies, its calls with their contexts and hooks, and what each
+//! occurrence makes of them. It lives by what the gateway lends it.
 #![tactic(auto)]
 
 mod arriving;

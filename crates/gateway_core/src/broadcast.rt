@@ -9,8 +9,8 @@ use gateway_replies::ReplyHook;
 use gateway_theory::Trigger;
 use std::collections::BTreeMap;
 
-/// Tells the contexts, and has each connection end those of its calls whose contexts this has ended. Where memory is refused to the
-/// reply of one, it breaks. True where one broke.
+/// Tells the contexts, and has each connection end those of its calls whose contexts this has ended. Where memory is
+/// refused to the reply of one, it breaks. True where one broke.
 pub(crate) fn end_calls<H: ReplyHook + Drop>(
     shared: &mut Shared<H>,
     conns: &mut BTreeMap<u64, Connection>,

@@ -38,7 +38,8 @@ const MOST_OPENINGS: u64 = 1 << 56;
 /// Moments above this one count as it.
 const LAST_MOMENT: u64 = 1 << 62;
 
-/// The gateway: connections whose requests are answered by asking backends. It does no input or output and reads no clock.
+/// The gateway: connections whose requests are answered by asking backends. It does no input or output and reads no
+/// clock.
 #[derive(Drop)]
 pub struct Core<H> {
     shared: Shared<H>,
@@ -145,8 +146,8 @@ impl<H: ReplyHook + Drop> Core<H> {
         held.hang_up(&mut self.shared)
     }
 
-    /// A moment has come, in milliseconds: the calls end whose deadlines it has reached, or that of a branch of theirs which is
-    /// out. True where a connection broke in the step.
+    /// A moment has come, in milliseconds: the calls end whose deadlines it has reached, or that of a branch of theirs
+    /// which is out. True where a connection broke in the step.
     pub fn moment(&mut self, moment: u64) -> bool
         ensures stands { TakesEvent (Moment moment) self.old self.new }
         ensures adds { AddsEvent (Moment moment) self.old self.new }
@@ -191,7 +192,8 @@ impl<H: ReplyHook + Drop> Core<H> {
         true
     }
 
-    /// A branch of a call ends with that outcome. Where memory is refused to what this starts or decides, the connection breaks.
+    /// A branch of a call ends with that outcome. Where memory is refused to what this starts or decides, the
+    /// connection breaks.
     pub fn result(&mut self, call: &CallId, branch: u32, outcome: Outcome) -> Took
         ensures stands { TakesEvent (BranchResult call.now.conn call.now.request branch outcome) self.old self.new }
         ensures adds { AddsEvent (BranchResult call.now.conn call.now.request branch outcome) self.old self.new }
@@ -260,8 +262,8 @@ impl<H: ReplyHook + Drop> Core<H> {
         held.take_reply()
     }
 
-    /// At most 64 connections are open, and no more than 8 requests of one that is not broken wait for their replies. It does
-    /// nothing.
+    /// At most 64 connections are open, and no more than 8 requests of one that is not broken wait for their replies.
+    /// It does nothing.
     pub fn bounds_law(&self)
         ensures few { open_count self.now ≤ most_open }
         ensures calls { HasFewCalls self.now }
@@ -307,8 +309,8 @@ impl<H: ReplyHook + Drop> Core<H> {
         self.tally
     }
 
-    /// Whether the connection no longer brings requests or replies: it is unknown, closed or broken, or its stream has ended
-    /// and no call of it is undecided.
+    /// Whether the connection no longer brings requests or replies: it is unknown, closed or broken, or its stream has
+    /// ended and no call of it is undecided.
     pub fn ended(&self, conn: ConnId) -> bool
         ensures { result ≡ is_ended conn self.now }
     {

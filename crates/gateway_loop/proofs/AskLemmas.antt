@@ -1,5 +1,5 @@
 -- What each step makes of the jobs that are asked for, and of those that ended.
-use Rattle.gateway_loop.proofs.Words.{◌≡◌, ◌≢◌, ◌⊎◌, ℕ, zero, suc, ◌+◌, Bool, false, cond, List, [], ◌∷◌, ◌++◌, All, map, Option, None, Some, refl, sym, ap, ◌∙◌, subst, arith, append_assoc, inl, inr, ⊎_elim, count_by, sum_by, option_map, slice_index_or, option_map_or, cases_eq, map-append, All-push, sum_by-append, sum_by-cons, Outcome, JobValue, IsPrefixOf, HandedJob, Slab, Updates, AskingValue, BeginsRequest, EndedValue, IsFair, StreamValue, ended_value, LoopValue, HasTicked, AsksFairly, AsksOn, ContinuesLoop, GivesUpStream, HasEndedSince, KeepsStream, WholeLoop, asked_at, count_asked, AskingState, asked_for, HandsNothing, Onward, Goes, whole_loop, SocketAddr}
+use Rattle.gateway_loop.proofs.Words.{◌≡◌, ◌≢◌, ◌⊎◌, ℕ, zero, suc, ◌+◌, Bool, false, cond, List, [], ◌∷◌, ◌++◌, All, map, Option, None, Some, refl, sym, ap, ◌∙◌, subst, arith, append_assoc, inl, inr, ⊎_elim, count_by, sum_by, option_map, slice_index_or, option_map_or, cases_eq, map-append, All-push, sum_by-append, sum_by-cons, Outcome, JobValue, IsPrefixOf, HandedJob, Slab, Updates, AskingValue, BeginsRequest, EndedValue, IsFair, StreamValue, ended_value, LoopValue, HasTicked, AsksFairly, AsksOn, ContinuesLoop, GivesUpStream, HasEndedSince, KeepsStream, WholeLoop, asked_at, count_asked, AskingState, asked_for, HandsNothing, Onward, Goes, whole_loop, SocketAddr, prefix-refl, prefix-trans}
 use Rattle.std.proofs.lemmas.Bool.Decides.{nat_tests}
 use Rattle.std.proofs.lemmas.List.{append-nil}
 use Rattle.gateway_loop.proofs.GrowLemmas as grow
@@ -11,8 +11,8 @@ use Rattle.gateway_loop.proofs.SumLemmas.{sum_map, sum_put}
 asks_same : (x : AskingValue) → AsksOn x x
 asks_same x = record {
   job = refl;
-  found = grow.begins_same x.found;
-  streams = inl record { tried = refl; peer = inr refl; given = grow.begins_same x.given; got = grow.begins_same x.got };
+  found = prefix-refl x.found;
+  streams = inl record { tried = refl; peer = inr refl; given = prefix-refl x.given; got = prefix-refl x.got };
 }
 
 module _ (x y z : AskingValue) where
@@ -24,8 +24,8 @@ module _ (x y z : AskingValue) where
   keeps_keeps k l = record {
     tried = l.tried ∙ k.tried;
     peer = same_peer k.peer l.peer;
-    given = grow.begins_then x.given y.given z.given k.given l.given;
-    got = grow.begins_then x.got y.got z.got k.got l.got;
+    given = prefix-trans x.given y.given z.given k.given l.given;
+    got = prefix-trans x.got y.got z.got k.got l.got;
   }
 
   keeps_gives : KeepsStream x y → GivesUpStream y z → GivesUpStream x z
@@ -35,8 +35,8 @@ module _ (x y z : AskingValue) where
     tried_are = g.tried_are ∙ ap (λ (t : List StreamValue). t ++ g.last ∷ g.others) k.tried;
     peer = ⊎_elim (λ (none : x.peer ≡ None). inl none) (λ (is : Some g.last.peer ≡ x.peer). inr (sym is))
         (same_peer k.peer (⊎_elim (λ (none : y.peer ≡ None). inl none) (λ (is : y.peer ≡ Some g.last.peer). inr (sym is)) g.peer));
-    given = grow.begins_then x.given y.given g.last.given k.given g.given;
-    got = grow.begins_then x.got y.got g.last.got k.got g.got;
+    given = prefix-trans x.given y.given g.last.given k.given g.given;
+    got = prefix-trans x.got y.got g.last.got k.got g.got;
   }
 
   gives_keeps : GivesUpStream x y → KeepsStream y z → GivesUpStream x z
@@ -48,7 +48,7 @@ module _ (x y z : AskingValue) where
   asks_then : AsksOn x y → AsksOn y z → AsksOn x z
   asks_then a b = record {
     job = b.job ∙ a.job;
-    found = grow.begins_then x.found y.found z.found a.found b.found;
+    found = prefix-trans x.found y.found z.found a.found b.found;
     streams = ⊎_elim
         (λ (k : KeepsStream x y). ⊎_elim (λ (l : KeepsStream y z). inl (keeps_keeps k l)) (λ (g : GivesUpStream y z). inr (keeps_gives k g)) b.streams)
         (λ (g : GivesUpStream x y). ⊎_elim (λ (l : KeepsStream y z). inr (gives_keeps g l)) (λ (h : GivesUpStream y z). inr (gives_gives g h)) b.streams)
@@ -71,7 +71,7 @@ module _ (u v w : WholeLoop) (y : AskingValue) where
       }
 
 pub continues_same : (v : WholeLoop) → ContinuesLoop v v
-continues_same v = record { side = grow.continues_same v.side; asking = λ i x is. (x, inl is, asks_same x); ended = grow.begins_same v.ended }
+continues_same v = record { side = grow.continues_same v.side; asking = λ i x is. (x, inl is, asks_same x); ended = prefix-refl v.ended }
 
 continues_then : (u v w : WholeLoop) → ContinuesLoop u v → ContinuesLoop v w → ContinuesLoop u w
 continues_then u v w a b = record {
@@ -84,7 +84,7 @@ continues_then u v w a b = record {
       (t.0, ⊎_elim (λ (still : asked_at i w.asking ≡ Some t.0). inl still) (λ (e : HasEndedSince v w t.0). inr (then_since u v w t.0 a.ended e)) t.1, asks_then x s.0 t.0 s.2 t.2))
       (λ (e : HasEndedSince u v s.0). (s.0, inr (since_then u v w s.0 e b.ended), s.2))
       s.1;
-  ended = grow.begins_then u.ended v.ended w.ended a.ended b.ended;
+  ended = prefix-trans u.ended v.ended w.ended a.ended b.ended;
 }
 
 pub onward : (v w : WholeLoop) → ContinuesLoop v w → Goes v w
@@ -150,7 +150,7 @@ module _ (old new : List (Option AskingState)) (i : ℕ) where
             (asked_for y, inl (stands_at y j put same), subst (λ (t : AskingValue). AsksOn t (asked_for y)) (some_asked (asked_for x) z (stood_at (Some x) j z was same is)) on))
             (λ (other : j ≡ i → ⊥). (z, inl (stays_at (Some y) j z put other is), asks_same z))
             (cases_eq j i);
-        ended = grow.begins_same (whole_loop v old ended).ended;
+        ended = prefix-refl (whole_loop v old ended).ended;
       }
 
   -- .. began
@@ -164,7 +164,7 @@ module _ (old new : List (Option AskingState)) (i : ℕ) where
             (λ (same : j ≡ i). absurd (none_asked z (stood_at None j z free same is)))
             (λ (other : j ≡ i → ⊥). (z, inl (stays_at (Some y) j z put other is), asks_same z))
             (cases_eq j i);
-        ended = grow.begins_same (whole_loop v old ended).ended;
+        ended = prefix-refl (whole_loop v old ended).ended;
       }
 
   -- .. ended

@@ -1,25 +1,19 @@
 -- What only grows.
-use Rattle.gateway_loop.proofs.Words.{◌≡◌, ℕ, List, [], ◌∷◌, ◌++◌, map, Option, None, Some, refl, sym, ap, ◌∙◌, subst, append_assoc, append-nil, inl, inr, ⊎_elim, Bool, true, false, cond, arith, length, ◌+◌, count_by, option_map_or, Contains, cases_eq, Contains-append_left, Contains-push, map-append, sum_by-cons, entries_from, Outcome, HandedJob, JobValue, IsPrefixOf, ClientValue, client_value, LoopValue, at, Continues, Grows, Onward, lingering}
+use Rattle.gateway_loop.proofs.Words.{◌≡◌, ℕ, List, [], ◌∷◌, ◌++◌, map, Option, None, Some, refl, sym, ap, ◌∙◌, subst, append_assoc, append-nil, inl, inr, ⊎_elim, Bool, true, false, cond, arith, length, ◌+◌, count_by, option_map_or, Contains, cases_eq, Contains-append_left, Contains-push, map-append, sum_by-cons, entries_from, Outcome, HandedJob, JobValue, IsPrefixOf, ClientValue, client_value, LoopValue, at, Continues, Grows, Onward, lingering, prefix-refl, prefix-trans}
 use Rattle.std.proofs.lemmas.Bool.Decides.{nat_tests}
 use Rattle.gateway_loop.proofs.Places.{Put}
-
-pub begins_same : {A : Type 0} (xs : List A) → IsPrefixOf xs xs
-begins_same xs = ([], sym (append-nil xs))
 
 pub begins_by : {A : Type 0} (xs ys more : List A) → ys ≡ xs ++ more → IsPrefixOf xs ys
 begins_by xs ys more is = (more, is)
 
 pub begins_is : {A : Type 0} (xs ys : List A) → ys ≡ xs → IsPrefixOf xs ys
-begins_is xs ys is = ([], is ∙ sym (append-nil xs))
-
-pub begins_then : {A : Type 0} (a b c : List A) → IsPrefixOf a b → IsPrefixOf b c → IsPrefixOf a c
-begins_then a b c p q = (p.0 ++ q.0, q.1 ∙ ap (λ t. t ++ q.0) p.1 ∙ append_assoc a p.0 q.0)
+begins_is {A} xs ys is = subst (λ (l : List A). IsPrefixOf xs l) (sym is) (prefix-refl xs)
 
 pub grows_same : (x : ClientValue) → Grows x x
-grows_same x = record { conn = refl; given = begins_same x.given; got = begins_same x.got }
+grows_same x = record { conn = refl; given = prefix-refl x.given; got = prefix-refl x.got }
 
 pub grows_then : (x y z : ClientValue) → Grows x y → Grows y z → Grows x z
-grows_then x y z a b = search (arith, nat_tests, begins_then)
+grows_then x y z a b = search (arith, nat_tests, prefix-trans)
 
 contains_more : {A : Type 0} (xs ys : List A) (x : A) → IsPrefixOf xs ys → Contains xs x → Contains ys x
 contains_more xs ys x p there = subst (λ l. Contains l x) (sym p.1) (Contains-append_left xs p.0 x there)
@@ -33,10 +27,10 @@ continues_then u v w a b = record {
       (λ (there : at i v.clients ≡ Some first.0). let second = b.clients i first.0 there in (second.0, second.1, grows_then x first.0 second.0 first.2 second.2))
       (λ (gone : Contains v.gone first.0). (first.0, inr (contains_more v.gone w.gone first.0 b.gone gone), first.2))
       first.1;
-  gone = begins_then u.gone v.gone w.gone a.gone b.gone;
-  told = begins_then u.told v.told w.told a.told b.told;
-  results = begins_then u.results v.results w.results a.results b.results;
-  handed = begins_then u.handed v.handed w.handed a.handed b.handed;
+  gone = prefix-trans u.gone v.gone w.gone a.gone b.gone;
+  told = prefix-trans u.told v.told w.told a.told b.told;
+  results = prefix-trans u.results v.results w.results a.results b.results;
+  handed = prefix-trans u.handed v.handed w.handed a.handed b.handed;
   drained = b.drained ∙ a.drained;
 }
 
@@ -47,10 +41,10 @@ pub continues_same : (v : LoopValue) → Continues v v
 continues_same v = record {
   plans = refl;
   clients = λ i x is. (x, inl is, grows_same x);
-  gone = begins_same v.gone;
-  told = begins_same v.told;
-  results = begins_same v.results;
-  handed = begins_same v.handed;
+  gone = prefix-refl v.gone;
+  told = prefix-refl v.told;
+  results = prefix-refl v.results;
+  handed = prefix-refl v.handed;
   drained = refl;
 }
 
@@ -137,7 +131,7 @@ pub no_more : (xs ys : List ℕ) → ys ≡ xs → ys ≡ xs ++ []
 no_more xs ys same = same ∙ sym (append-nil xs)
 
 pub grows_lingering : (x : ClientValue) → Grows x (lingering x)
-grows_lingering x = record { conn = refl; given = begins_same x.given; got = begins_same x.got }
+grows_lingering x = record { conn = refl; given = prefix-refl x.given; got = prefix-refl x.got }
 
 -- ---- what logs tell
 

@@ -1,5 +1,5 @@
 -- What steps of one client, and other events, make of what the core's history explains.
-use Rattle.gateway_loop.proofs.Words.{◌≡◌, ℕ, suc, ◌+◌, ◌<◌, Bool, false, cond, List, [], ◌∷◌, ◌++◌, All, Option, None, Some, refl, sym, ap, ◌∙◌, subst, arith, ◌==◌, All-push, All-weaker, PlanRecord, Outcome, connections, History, ClientValue, LoopValue, at, one_below, results, Fits, HasStood, HoldsRest, IsHeld, IsQuiet, Leads, OpensNone, LoopLaws}
+use Rattle.gateway_loop.proofs.Words.{◌≡◌, ℕ, suc, ◌+◌, ◌<◌, Bool, false, cond, List, [], ◌∷◌, ◌++◌, All, Option, None, Some, refl, sym, ap, ◌∙◌, subst, arith, ◌==◌, All-push, All-weaker, PlanRecord, Outcome, connections, History, ClientValue, LoopValue, at, one_below, Fits, HasStood, HoldsRest, IsHeld, IsQuiet, Leads, OpensNone, LoopLaws}
 use Rattle.std.proofs.lemmas.Bool.Decides.{nat_tests}
 use Rattle.gateway_loop.proofs.StepLemmas.{fits_on, stood_on}
 use Rattle.gateway_loop.proofs.Places.{Put}

@@ -21,6 +21,7 @@ pub use Rattle.gateway_model.specs.declared.event.Event.TheVariants.{Piece, Hang
 pub use Rattle.gateway_theory.specs.Served.{after_reply, Served}
 pub use Rattle.gateway_theory.specs.Task.{HandedJob}
 pub use Rattle.gateway_theory.specs.Values.{GatewayValue, shown}
+pub use Rattle.gateway_theory.specs.lemmas.PastLemmas.{prefix-refl, prefix-trans}
 pub use Rattle.loop_model.specs.Asking.{IsAddressOf, StreamValue, BeginsRequest, AskingValue, EndedValue, IsFair, ended_value, IsUntouched, request_of, stream_value}
 pub use Rattle.loop_model.specs.Clients.{ClientValue, client_value, IsExplainedClient}
 pub use Rattle.loop_model.specs.Explained.{LoopValue, at, one_below, count_of, IsExplainedBy, draining}

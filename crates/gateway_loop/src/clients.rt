@@ -22,8 +22,8 @@ use std::alloc::{AllocError, Global};
 use std::marker::Model;
 use wires::Wire;
 
-/// A core and its clients, by their places. Whatever is done by its functions, one history explains all that its clients' streams brought
-/// and got (`explained_law`).
+/// A core and its clients, by their places. Whatever is done by its functions, one history explains all that its
+/// clients' streams brought and got (`explained_law`).
 #[derive(Drop)]
 pub(crate) struct Clients<H, W: Wire> {
     alloc: Global,
@@ -31,7 +31,8 @@ pub(crate) struct Clients<H, W: Wire> {
     clients: Slab<Client<W>>,
     // the last moment that was handed in
     moment: u64,
-    // for proofs: the clients that have gone, the moments that were told, the results that were handed in, and the jobs that were taken
+    // for proofs: the clients that have gone, the moments that were told, the results that were handed in, and the
+    // jobs that were taken
     gone: Log<Client<W>, bool>,
     told: Log<u64, bool>,
     results: Log<Job, Option<Outcome>>,
@@ -73,8 +74,8 @@ impl<H: ReplyHook + Drop, W: Wire + Drop> Clients<H, W> {
         })
     }
 
-    /// Opens a connection for the stream: its number, and the place of its client. Where none can be opened, the stream is closed without
-    /// a byte.
+    /// Opens a connection for the stream: its number, and the place of its client. Where none can be opened, the
+    /// stream is closed without a byte.
     pub(crate) fn open(&mut self, dealt: Dealt<H, W>) -> Option<(ConnId, usize)>
         ensures goes { Onward self.old self.new }
         ensures told { self.new.told ≡ self.old.told }
@@ -159,7 +160,8 @@ impl<H: ReplyHook + Drop, W: Wire + Drop> Clients<H, W> {
         self.gone = self.gone.and(&client, &true);
     }
 
-    /// Hands in the present moment, unless that would change nothing. Answers whether something may have come of it for any client.
+    /// Hands in the present moment, unless that would change nothing. Answers whether something may have come of it
+    /// for any client.
     pub(crate) fn tick<N: Network<W>>(&mut self, net: &mut N) -> bool
         ensures goes { Onward self.old self.new }
         ensures ticks { HasTicked self.old self.new }

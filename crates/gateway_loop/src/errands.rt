@@ -37,7 +37,8 @@ impl<H: ReplyHook + Drop, W: Wire + Drop> EventLoop<H, W> {
         started
     }
 
-    /// Begins the exchange in that place, which is new. One that nobody waits for, or for which there is no memory, is over at once.
+    /// Begins the exchange in that place, which is new. One that nobody waits for, or for which there is no memory, is
+    /// over at once.
     fn start<N: Network<W>>(&mut self, net: &mut N, place: usize)
         ensures goes { Goes self.old self.new }
         ensures told { TellsLoop (N.told net.old) (N.told net.new) self.old self.new }
@@ -118,7 +119,8 @@ impl<H: ReplyHook + Drop, W: Wire + Drop> EventLoop<H, W> {
         }
     }
 
-    /// The exchange in that place waits for its name: its number among those who do. None where that can't be looked up.
+    /// The exchange in that place waits for its name: its number among those who do. None where that can't be looked
+    /// up.
     fn wait_for_name<N: Network<W>>(
         &mut self,
         net: &mut N,
@@ -170,8 +172,8 @@ impl<H: ReplyHook + Drop, W: Wire + Drop> EventLoop<H, W> {
         }
     }
 
-    /// Connects the exchange in that place to the next of its addresses that does not refuse at once, and writes its request. Where there
-    /// is none, it is lost by what is told.
+    /// Connects the exchange in that place to the next of its addresses that does not refuse at once, and writes its
+    /// request. Where there is none, it is lost by what is told.
     pub(crate) fn try_next<N: Network<W>>(&mut self, net: &mut N, place: usize, loss: Loss)
         ensures goes { Goes self.old self.new }
         ensures told { TellsLoop (N.told net.old) (N.told net.new) self.old self.new }
@@ -252,8 +254,8 @@ impl<H: ReplyHook + Drop, W: Wire + Drop> EventLoop<H, W> {
         }
     }
 
-    /// Sets how long the new stream of an exchange has: where another address follows, half of the time that is left, or a second. False
-    /// for want of memory.
+    /// Sets how long the new stream of an exchange has: where another address follows, half of the time that is left,
+    /// or a second. False for want of memory.
     fn begin_until(&mut self, place: usize) -> bool
         ensures goes { Goes self.old self.new }
         ensures told { self.new.side.told ≡ self.old.side.told }
@@ -360,7 +362,8 @@ impl<H: ReplyHook + Drop, W: Wire + Drop> EventLoop<H, W> {
         self.end(net, place);
     }
 
-    /// Frees all that the exchange in that place has, and records what came of it: the place of its client, and its call.
+    /// Frees all that the exchange in that place has, and records what came of it: the place of its client, and its
+    /// call.
     pub(crate) fn finish(&mut self, place: usize) -> Option<(usize, CallId)>
         ensures goes { Goes self.old self.new }
         ensures told { self.new.side.told ≡ self.old.side.told }

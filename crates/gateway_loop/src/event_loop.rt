@@ -90,7 +90,8 @@ impl<H: ReplyHook + Drop, W: Wire + Drop> EventLoop<H, W> {
         })
     }
 
-    /// The moment at which a turn is due though nothing comes, in milliseconds; 0 if it is due at once, None if none is.
+    /// The moment at which a turn is due though nothing comes, in milliseconds; 0 if it is due at once, None if none
+    /// is.
     pub fn next_turn(&self) -> Option<u64> {
         if self.again {
             return Some(0);
@@ -123,7 +124,8 @@ impl<H: ReplyHook + Drop, W: Wire + Drop> EventLoop<H, W> {
         self.clients().len() == 0
     }
 
-    /// One history explains all that this loop's clients brought and got, and each result is that of an exchange. It does nothing.
+    /// One history explains all that this loop's clients brought and got, and each result is that of an exchange. It
+    /// does nothing.
     pub fn explained_law(&self)
         ensures { IsExplainedLoop self.now }
     {

@@ -22,8 +22,8 @@ use std::marker::Model;
 use std::net::SocketAddr;
 use wires::Wire;
 
-/// A core with its clients, and the jobs that are asked for, by their places. Whatever is done by its functions, each job that was taken
-/// is asked for, or has one result, which is that of its exchange (`explained_law`).
+/// A core with its clients, and the jobs that are asked for, by their places. Whatever is done by its functions, each
+/// job that was taken is asked for, or has one result, which is that of its exchange (`explained_law`).
 #[derive(Drop)]
 pub(crate) struct Exchanges<H, W: Wire> {
     alloc: Global,
@@ -67,8 +67,8 @@ impl<H: ReplyHook + Drop, W: Wire + Drop> Exchanges<H, W> {
         &self.clients
     }
 
-    /// Opens a connection for the stream: its number, and the place of its client. Where none can be opened, the stream is closed without
-    /// a byte.
+    /// Opens a connection for the stream: its number, and the place of its client. Where none can be opened, the
+    /// stream is closed without a byte.
     pub(crate) fn open(&mut self, dealt: Dealt<H, W>) -> Option<(ConnId, usize)>
         ensures goes { Goes self.old self.new }
         ensures told { self.new.side.told ≡ self.old.side.told }
@@ -114,7 +114,8 @@ impl<H: ReplyHook + Drop, W: Wire + Drop> Exchanges<H, W> {
         self.clients.let_go(place);
     }
 
-    /// Hands in the present moment, unless that would change nothing. Answers whether something may have come of it for any client.
+    /// Hands in the present moment, unless that would change nothing. Answers whether something may have come of it
+    /// for any client.
     pub(crate) fn tick<N: Network<W>>(&mut self, net: &mut N) -> bool
         ensures goes { Goes self.old self.new }
         ensures ticks { HasTicked self.old.side self.new.side }
@@ -131,7 +132,8 @@ impl<H: ReplyHook + Drop, W: Wire + Drop> Exchanges<H, W> {
         self.clients.drain();
     }
 
-    /// One history explains all that the clients brought and got, and its results are those of the exchanges. It does nothing.
+    /// One history explains all that the clients brought and got, and its results are those of the exchanges. It does
+    /// nothing.
     pub(crate) fn explained_law(&self)
         ensures { IsExplainedLoop self.now }
     {
@@ -180,7 +182,8 @@ impl<H: ReplyHook + Drop, W: Wire + Drop> Exchanges<H, W> {
         progress
     }
 
-    /// The exchange in that place goes over a stream to the next of its addresses from now on. False where there is none.
+    /// The exchange in that place goes over a stream to the next of its addresses from now on. False where there is
+    /// none.
     pub(crate) fn connect<N: Network<W>>(&mut self, net: &mut N, place: usize) -> bool
         ensures goes { Goes self.old self.new }
         ensures told { self.new.side.told ≡ self.old.side.told }

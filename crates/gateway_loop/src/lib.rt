@@ -1,5 +1,5 @@
-//! A loop that owns a gateway's core, its clients' streams and the exchanges with its backends, and does in turns what can be done
-//! without waiting. It does no input or output but through a `Network` and its wires.
+//! A loop that owns a gateway's core, its clients' streams and the exchanges with its backends, and does in turns what
+//! can be done without waiting. It does no input or output but through a `Network` and its wires.
 #![tactic(auto)]
 
 mod client;

@@ -12,7 +12,8 @@ use wires::Wire;
 
 #[tactic(auto, using(crate::proofs::AskLemmas::going))]
 impl<H: ReplyHook + Drop, W: Wire + Drop> EventLoop<H, W> {
-    /// One turn: takes what the last wait brought, and does what can be done without waiting. `next_turn` tells when another is due.
+    /// One turn: takes what the last wait brought, and does what can be done without waiting. `next_turn` tells when
+    /// another is due.
     pub fn turn<N: Network<W>>(&mut self, net: &mut N, comings: &mut Comings<H, W>)
         ensures continues { ContinuesLoop self.old self.new }
         ensures told { TellsLoop (N.told net.old) (N.told net.new) self.old self.new }
@@ -67,7 +68,8 @@ impl<H: ReplyHook + Drop, W: Wire + Drop> EventLoop<H, W> {
         started
     }
 
-    /// Hands in the present moment, unless that would change nothing: so calls that are due end before anything that is seen later.
+    /// Hands in the present moment, unless that would change nothing: so calls that are due end before anything that
+    /// is seen later.
     pub(crate) fn tick<N: Network<W>>(&mut self, net: &mut N)
         ensures goes { Goes self.old self.new }
         ensures ticks { HasTicked self.old.side self.new.side }
@@ -101,7 +103,8 @@ impl<H: ReplyHook + Drop, W: Wire + Drop> EventLoop<H, W> {
         ensures goes { Goes self.old self.new }
         ensures told { self.new.side.told ≡ self.old.side.told }
     {
-        // a call that ended behind an undecided one shows by its exchanges' time limits; but a branch that waits for a place has none
+        // a call that ended behind an undecided one shows by its exchanges' time limits; but a branch that waits for a
+        // place has none
         let has_waiting = self.clients().core().waiting_jobs() > 0;
         for index in 0..self.open.len() {
             let Some(open) = self.open.get(index) else {

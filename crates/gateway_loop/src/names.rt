@@ -26,8 +26,8 @@ impl Names {
         }
     }
 
-    /// The exchange in that place waits for the name, which is looked up once for all who wait for it: its number among these. None where
-    /// the name can't be looked up.
+    /// The exchange in that place waits for the name, which is looked up once for all who wait for it: its number
+    /// among these. None where the name can't be looked up.
     pub(crate) fn wait<W: Wire, N: Network<W>>(
         &mut self,
         net: &mut N,

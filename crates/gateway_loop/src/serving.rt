@@ -32,7 +32,8 @@ impl<H: ReplyHook + Drop, W: Wire + Drop> EventLoop<H, W> {
         }
     }
 
-    /// Opens a connection for the stream. Where none can be opened, or the stream not be watched, it is closed without a byte.
+    /// Opens a connection for the stream. Where none can be opened, or the stream not be watched, it is closed without
+    /// a byte.
     fn admit<N: Network<W>>(&mut self, net: &mut N, dealt: Dealt<H, W>)
         ensures goes { Goes self.old self.new }
         ensures told { TellsLoop (N.told net.old) (N.told net.new) self.old self.new }
@@ -59,7 +60,8 @@ impl<H: ReplyHook + Drop, W: Wire + Drop> EventLoop<H, W> {
         }
     }
 
-    /// Notes what became possible, and puts those whom it concerns into the line. A token that names nobody changes nothing.
+    /// Notes what became possible, and puts those whom it concerns into the line. A token that names nobody changes
+    /// nothing.
     pub(crate) fn note_ready(&mut self, ready: Ready)
         ensures goes { Goes self.old self.new }
         ensures told { self.new.side.told ≡ self.old.side.told }
@@ -199,7 +201,8 @@ impl<H: ReplyHook + Drop, W: Wire + Drop> EventLoop<H, W> {
         }
     }
 
-    /// Whether the client in that place is to be read: its stream may have bytes, and nothing waits to be written to it.
+    /// Whether the client in that place is to be read: its stream may have bytes, and nothing waits to be written to
+    /// it.
     fn is_to_be_read(&self, place: usize) -> bool {
         self.may_read(place) && self.clients().is_to_be_read(place)
     }
@@ -254,8 +257,8 @@ impl<H: ReplyHook + Drop, W: Wire + Drop> EventLoop<H, W> {
         }
     }
 
-    /// Closes the connections to which nothing is owed: each of its requests has its reply, and that was written. One whose last bytes
-    /// made no request stays: its request may be half read.
+    /// Closes the connections to which nothing is owed: each of its requests has its reply, and that was written. One
+    /// whose last bytes made no request stays: its request may be half read.
     pub fn close_idle(&mut self)
         ensures continues { ContinuesLoop self.old self.new }
         ensures told { self.new.side.told ≡ self.old.side.told }
@@ -277,8 +280,8 @@ impl<H: ReplyHook + Drop, W: Wire + Drop> EventLoop<H, W> {
         Some(open.1)
     }
 
-    /// The connection of the client in that place is closed. Its stream lingers, so that what was written is not lost with what still
-    /// comes; or it is closed at once, where it has brought its end, or too many linger.
+    /// The connection of the client in that place is closed. Its stream lingers, so that what was written is not lost
+    /// with what still comes; or it is closed at once, where it has brought its end, or too many linger.
     pub(crate) fn leave(&mut self, place: usize)
         ensures goes { Goes self.old self.new }
         ensures told { self.new.side.told ≡ self.old.side.told }

@@ -1,5 +1,5 @@
-//! What must be believed of the gateway: the definitions that the headline is said in (`specs/`), and the types that they speak of.
-//! Of code there are a few one-line functions of those types, and no proof.
+//! What must be believed of the gateway: the definitions that the headline is said in (`specs/`), and the types that
+//! they speak of. Of code there are a few one-line functions of those types, and no proof.
 #![tactic(auto)]
 
 mod call_event;

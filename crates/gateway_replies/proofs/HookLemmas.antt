@@ -131,6 +131,13 @@ module _ {H : Type 0} where
   has_stock number [] x is = absurd (let clash : None ≡ Some x = is in cc)
   has_stock number (p ∷ ps) x is = grind (arith, has_stock number ps x)
 
+  pub has_its_stock : (number : ℕ) (ps : List (Peer H)) → (ctx_of number (peer_ties ps) ≡ None → ⊥) → stock_in number (stock_ties ps) ≡ Some (stock_of number (stock_ties ps))
+  has_its_stock number ps known = by (ctx_of number (peer_ties ps)) refl
+    where
+      by : (o : Option Id) → ctx_of number (peer_ties ps) ≡ o → stock_in number (stock_ties ps) ≡ Some (stock_of number (stock_ties ps))
+      by None none = absurd (known none)
+      by (Some x) is = has_stock number ps x is
+
   -- connections with the same contexts have stocks alike
   there_too : (number : ℕ) (ps qs : List (Peer H)) (stock : List H) → peer_ties qs ≡ peer_ties ps → stock_in number (stock_ties qs) ≡ Some stock
       → stock_in number (stock_ties ps) ≡ Some (stock_of number (stock_ties ps))

@@ -47,7 +47,8 @@ impl Model for ArrivedCall {
 }
 
 impl ArrivedCall {
-    /// What a request of the plan asks for, as it comes at the moment `start`. `timeout` is the request's own, in milliseconds.
+    /// What a request of the plan asks for, as it comes at the moment `start`. `timeout` is the request's own, in
+    /// milliseconds.
     pub fn new(
         alloc: Global,
         plan: &Arc<Plan>,

@@ -1,5 +1,5 @@
-//! The contexts of the open connections, of their undecided calls and of these calls' branches, found by the connections'
-//! numbers, the calls' ids and the branches' numbers.
+//! The contexts of the open connections, of their undecided calls and of these calls' branches, found by the
+//! connections' numbers, the calls' ids and the branches' numbers.
 mod cancelled;
 mod deadline;
 mod peer;
@@ -103,12 +103,10 @@ impl<H: ReplyHook + Drop> Contexts<H> {
     {
         self.contexts.apart_law();
         let request_id = shared(&asked.request_id)?;
-        let Some(conn) = ctx_of(&self.peers, id.conn.number()) else {
+        let Some(taken) = take_hook(&mut self.peers, id.conn.number()) else {
             unreachable!();
         };
-        let Some(hook) = take_hook(&mut self.peers, id.conn.number()) else {
-            unreachable!();
-        };
+        let (conn, hook) = taken;
         let Ok(_) = self
             .contexts
             .begin(id, conn, asked.deadline, now, request_id, hook)
@@ -145,9 +143,9 @@ impl<H: ReplyHook + Drop> Contexts<H> {
         }
     }
 
-    /// The event by which the call ends at this moment, as the contexts tell it: the hang-up of its connection's peer or the
-    /// drain, or of the deadlines of the call and of its branches the least that has been reached. None where nothing has, or
-    /// the call has no context.
+    /// The event by which the call ends at this moment, as the contexts tell it: the hang-up of its connection's peer
+    /// or the drain, or of the deadlines of the call and of its branches the least that has been reached. None where
+    /// nothing has, or the call has no context.
     pub fn ending(&self, id: &CallId, moment: u64) -> Option<CallEvent>
         ensures { result ≡ ending_life moment id.now self.now.standing.calls }
     {
@@ -251,10 +249,9 @@ impl<H: ReplyHook + Drop> Contexts<H> {
         ensures closed { self.new.standing ≡ closed number self.old.standing }
         ensures hooks { DropsHooks number self.old self.new }
     {
-        let Some(conn) = ctx_of(&self.peers, number) else {
+        let Some(conn) = remove_peer(&mut self.peers, number) else {
             return;
         };
-        remove_peer(&mut self.peers, number);
         self.contexts.close(conn);
     }
 
@@ -316,24 +313,29 @@ fn ctx_of<H>(peers: &[Peer<H>], number: u64) -> Option<CtxId>
     Some(peers[place].ctx)
 }
 
-/// The next hook of the connection of that number.
-fn take_hook<H>(peers: &mut Vec<Peer<H>>, number: u64) -> Option<H>
+/// The context of the connection of that number, and its next hook.
+fn take_hook<H>(peers: &mut Vec<Peer<H>>, number: u64) -> Option<(CtxId, H)>
     requires { Rising (numbers_of (peer_ties peers.old.items)) }
     ensures ties { peer_ties peers.new.items ≡ peer_ties peers.old.items }
-    ensures taken { Takes number result (stock_ties peers.old.items) (stock_ties peers.new.items) }
+    ensures ctx { IfSome result (λ taken. ctx_of number (peer_ties peers.old.items) ≡ Just taken.0) }
+    ensures taken { Takes number (option_map (λ taken. taken.1) result) (stock_ties peers.old.items) (stock_ties peers.new.items) }
 {
     let place = place(peers, number)?;
-    take_first(&mut peers[place].stock)
+    let peer = &mut peers[place];
+    let hook = take_first(&mut peer.stock)?;
+    Some((peer.ctx, hook))
 }
 
-/// Leaves the connections of other numbers.
-fn remove_peer<H: Drop>(peers: &mut Vec<Peer<H>>, number: u64)
+/// Leaves the connections of other numbers, and gives the context of the one that is gone.
+fn remove_peer<H: Drop>(peers: &mut Vec<Peer<H>>, number: u64) -> Option<CtxId>
     requires { Rising (numbers_of (peer_ties peers.old.items)) }
-    ensures { peers.new.items ≡ filter (λ p. not (p.number == number)) peers.old.items }
+    ensures ctx { result ≡ ctx_of number (peer_ties peers.old.items) }
+    ensures left { IfSome result (λ _. peers.new.items ≡ filter (λ p. not (p.number == number)) peers.old.items) }
+    ensures same { IfNone result (peers.new.items ≡ peers.old.items) }
 {
-    if let Some(place) = place(peers, number) {
-        peers.remove(place);
-    }
+    let place = place(peers, number)?;
+    let peer = peers.remove(place);
+    Some(peer.ctx)
 }
 
 /// The request id, shared once more.

@@ -1,4 +1,5 @@
-//! Replies, and what they are made of: what a call asks for, its context with its hook, and the reply that its record comes to.
+//! Replies, and what they are made of: what a call asks for, its context with its hook, and the reply that its record
+//! comes to.
 #![tactic(auto)]
 
 mod answers;

@@ -45,8 +45,8 @@ pub fn run<H: ReplyHook + Drop>(
     // The openings that succeeded, each where fewer connections were open than may be.
     ensures opened { IfOk result (λ run. IsOpened run.opened.items (newest_first events.items)) }
 
-    // What is queued for every connection, and what starts, in order and with what each backend is asked, is by what occurred
-    // and by where connections broke.
+    // What is queued for every connection, and what starts, in order and with what each backend is asked, is by what
+    // occurred and by where connections broke.
     ensures lived { IfOk result (λ run. (occurred : List Placed)
         → Occurs plans run.opened.items (newest_first events.items) occurred
         → (lived : List Placed) × IsLived run.opened.items run.queued.items run.starts.items (map (λ j. j.job) run.jobs.items)

@@ -201,7 +201,8 @@ fn flood()
         ≡ failed Code.Unavailable (codes "gateway is draining") ∷ [] }
 {}
 
-/// However many results come of a branch that answered, or of a call of another connection, the first call goes on as before.
+/// However many results come of a branch that answered, or of a call of another connection, the first call goes on as
+/// before.
 fn floods()
     ensures again { (strangers repeats : ℕ) → how_seen (call_id 0 0) 1 (marked (flooded strangers repeats)) ≡ Seen.Unknown }
     ensures strange { (strangers repeats : ℕ) → how_seen (call_id 7 0) 0 (marked (flooded strangers repeats)) ≡ Seen.Unknown }

@@ -1,4 +1,5 @@
-//! The worked rows of connections that break in the middle of a piece: what the definitions give for them. The functions do nothing.
+//! The worked rows of connections that break in the middle of a piece: what the definitions give for them. The
+//! functions do nothing.
 ghost use Rattle.std.specs.Prelude.{◌≡◌, ◌∷◌, [], codes, length, true, None};
 ghost use Rattle.gateway_model.specs.declared.seen.Seen.{Seen};
 ghost use Rattle.gateway_model.specs.Occurrence.{Opening, HangUp, Moment, Drain, Break};
@@ -16,8 +17,8 @@ fn break_between_requests()
     ensures broken { is_broken 0 (past_of (Opening ∷ gets 0 ∷ Break 0 ∷ gets 1 ∷ gets 2 ∷ [])) ≡ true }
 {}
 
-/// Between two calls of one piece: the branch of the first stays out and its result is late, and the second never begins. Another
-/// connection's call goes on.
+/// Between two calls of one piece: the branch of the first stays out and its result is late, and the second never
+/// begins. Another connection's call goes on.
 fn break_between_calls()
     ensures late { how_seen (call_id 0 0) 0 (past_of (Opening ∷ Opening ∷ asks ping None 0 ∷ Break 0 ∷ asks ping None 1 ∷ asks_on 1 ping None None 0 ∷ []))
         ≡ Seen.Late }
@@ -31,8 +32,8 @@ fn break_between_calls()
         ≡ starts_then ping 1 0 0 ∷ [] }
 {}
 
-/// Behind a call whose branches are out: no branch starts any more, and neither a result, a moment, the hang-up nor the drain decides
-/// the call. What was answered before stays queued.
+/// Behind a call whose branches are out: no branch starts any more, and neither a result, a moment, the hang-up nor
+/// the drain decides the call. What was answered before stays queued.
 fn break_behind_a_call()
     ensures starts { row_starts (Opening ∷ asks quote None 0 ∷ Break 0 ∷ answers 0 1 (codes "2") ∷ [])
         ≡ starts_then quote 1 0 0 ∷ starts_then quote 1 0 1 ∷ [] }

@@ -1,5 +1,5 @@
-//! The worked rows at the corners of the definitions: the moment that counts, the connection that counts, the calls that
-//! count. The functions do nothing.
+//! The worked rows at the corners of the definitions: the moment that counts, the connection that counts, the calls
+//! that count. The functions do nothing.
 ghost use Rattle.std.specs.Prelude.{◌≡◌, ◌^◌, ◌+◌, ◌++◌, ◌∷◌, [], map, codes, false, None, Some};
 ghost use Rattle.std.specs.List.{range_with_len};
 ghost use Rattle.error_document.specs.declared.code.Code.{Code};

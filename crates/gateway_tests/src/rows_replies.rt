@@ -1,4 +1,5 @@
-//! The worked rows of single requests and of backends' replies: what the definitions give for them. The functions do nothing.
+//! The worked rows of single requests and of backends' replies: what the definitions give for them. The functions do
+//! nothing.
 ghost use Rattle.std.specs.Prelude.{◌≡◌, ◌∷◌, [], length, codes, true, false, None, Some};
 ghost use Rattle.http_pieces.specs.Requests.{Requests, Open};
 ghost use Rattle.connect_codec.specs.Outcome.{outcome_of};

@@ -1,4 +1,5 @@
-//! The worked rows of streams: which requests their bytes are, where they end, and what is queued then. The functions do nothing.
+//! The worked rows of streams: which requests their bytes are, where they end, and what is queued then. The functions
+//! do nothing.
 ghost use Rattle.std.specs.Prelude.{◌≡◌, ℕ, List, ◌∷◌, [], ◌++◌, map, length, replicate, codes, true, None};
 ghost use Rattle.std.specs.List.{flat_map, range_with_len};
 ghost use Rattle.http_pieces.specs.Requests.{Requests, Open, RefusedBy, Closed};

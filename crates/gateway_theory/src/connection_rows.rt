@@ -25,7 +25,8 @@ fn what_ends()
     ensures anothers { (n : Now) (l : Live) → all_after n (HangUp 5) (λ c. one_out (Some l)) 0 ≡ one_out (Some l) }
 {}
 
-/// Once it breaks, or is closed, its call can't be decided; but its branch stays out. What was queued stays, until it is closed.
+/// Once it breaks, or is closed, its call can't be decided; but its branch stays out. What was queued stays, until it
+/// is closed.
 fn what_shuts()
     ensures broken { (n : Now) (l : Live) → (step n (Break 0) (one_out (Some l))).conn ≡ record (one_out None) { broken = true } }
     ensures closed { (n : Now) (l : Live) → (step n (Closing 0) (one_out (Some l))).conn ≡ record (one_out None) { slots = []; closed = true } }

@@ -19,8 +19,8 @@ pub fn pieces_law()
     request_laws();
 }
 
-/// One more opening that succeeds, behind some events and behind all other openings that do, changes nothing of what these
-/// events come to.
+/// One more opening that succeeds, behind some events and behind all other openings that do, changes nothing of what
+/// these events come to.
 pub fn openings_law()
     ensures occurs { (plans : List PlanRecord) (opened : List ℕ) (place : ℕ) (es : List Event) (occurred : List Placed)
         → ((other : ℕ) → succeeds opened other ≡ true → other < place) → length es ≤ place

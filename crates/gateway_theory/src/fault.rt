@@ -26,7 +26,8 @@ pub enum StepFault {
     /// There is no such connection, or it is closed, hung up or broken. Nothing changed.
     #[error("the connection is gone")]
     Gone,
-    /// A call would begin, and as many were begun as may be: 2^56. The connection is now broken: it queues no more replies.
+    /// A call would begin, and as many were begun as may be: 2^56. The connection is now broken: it queues no more
+    /// replies.
     #[error("no more calls can begin")]
     Exhausted,
     /// Memory was refused. The connection is now broken: it queues no more replies.

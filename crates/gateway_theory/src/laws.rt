@@ -62,8 +62,8 @@ pub fn starts_law()
     ensures { (placed : List Placed) → map job_started (starts placed) ≡ jobs (marked (occurrences placed)) }
 {}
 
-/// What is queued for a connection, which of its branches are out, how its results are seen and what starts for it are by what is
-/// visible to it: moments, the drain, and what names it.
+/// What is queued for a connection, which of its branches are out, how its results are seen and what starts for it are
+/// by what is visible to it: moments, the drain, and what names it.
 pub fn own_law()
     ensures queue { (conn : ℕ) (occurred : List Occurrence)
         → queued_entries conn (marked occurred) ≡ queued_entries conn (marked (own conn occurred)) }

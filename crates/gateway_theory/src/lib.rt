@@ -1,5 +1,6 @@
-//! What each event makes of the gateway's state, and the theorems on it (`specs/lemmas`). Nothing here need be believed: it is proved.
-//! The laws are facts on every list of events; their functions do nothing. No code of the gateway is here.
+//! What each event makes of the gateway's state, and the theorems on it (`specs/lemmas`). Nothing here need be
+//! believed: it is proved. The laws are facts on every list of events; their functions do nothing. No code of the
+//! gateway is here.
 #![tactic(auto)]
 
 mod connection_rows;

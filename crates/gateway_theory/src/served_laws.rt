@@ -43,8 +43,8 @@ pub fn parts_law()
     request_laws();
 }
 
-/// What is kept of a call is what has occurred of it: one that can be decided, of a connection that is not broken, has a lawful
-/// record, which is not decided; and no call has more branches out than its plan's limit.
+/// What is kept of a call is what has occurred of it: one that can be decided, of a connection that is not broken, has
+/// a lawful record, which is not decided; and no call has more branches out than its plan's limit.
 pub fn calls_law()
     ensures records { (id : CallId) (kept : CallRecord) (v : GatewayValue) (h : History) (occurred : List Placed)
         → Served v h → Occurs v.plans h.opened h.events occurred → is_whole id.conn (shown v) ≡ true

@@ -67,8 +67,8 @@ pub fn fresh_law()
     ensures reply { HasReadReply (reply_reader_value (ReplyPartial [])) [] None }
 {}
 
-/// Every text is cut into something, and has a list of requests. (There can't be none: a head's grammar is a relation, so
-/// that no head is computed here.)
+/// Every text is cut into something, and has a list of requests. (There can't be none: a head's grammar is a relation,
+/// so that no head is computed here.)
 pub fn existence_law()
     ensures cut { (k : ℕ) (text : List ℕ) → ¬ ((c : Cut Refusal HttpRequest) → ¬ (IsCut (request_kind k) text c)) }
     ensures reply_cut { (text : List ℕ) → ¬ ((c : Cut ReplyFault HttpReply) → ¬ (IsCut reply_kind text c)) }

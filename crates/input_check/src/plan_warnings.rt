@@ -6,7 +6,7 @@ use crate::spelling::meant_key;
 use crate::structure::repeated_key;
 use crate::warnings::Warnings;
 use serde_json::Value;
-use std::alloc::{AllocError, Global};
+use std::alloc::Global;
 
 const PLAN_KEYS: [&str; 4] = ["path", "limit", "timeout_ms", "branches"];
 
@@ -27,17 +27,12 @@ const FILE_KEYS: [&str; 8] = [
 const MOST_PORT: u64 = 65_535;
 
 /// Adds the warnings of an array of plans, of as many as a file may have.
-pub(crate) fn push_plan_warnings(
-    alloc: Global,
-    warnings: &mut Warnings<'_>,
-    plans: &[Value],
-) -> Result<(), AllocError> {
+pub(crate) fn push_plan_warnings(alloc: Global, warnings: &mut Warnings<'_>, plans: &[Value]) {
     for (k, plan) in plans.iter().take(MOST_PLANS).enumerate() {
         if plan.is_object() {
-            push_warnings_of_plan(alloc, warnings, Place::Plan(k + 1, plan.get("path")), plan)?;
+            push_warnings_of_plan(alloc, warnings, Place::Plan(k + 1, plan.get("path")), plan);
         }
     }
-    Ok(())
 }
 
 fn push_warnings_of_plan<'v>(
@@ -45,11 +40,11 @@ fn push_warnings_of_plan<'v>(
     warnings: &mut Warnings<'_>,
     place: Place<'v>,
     plan: &'v Value,
-) -> Result<(), AllocError> {
-    push_key_warnings(alloc, warnings, place, plan, &PLAN_KEYS)?;
-    push_path_warning(alloc, warnings, place, plan)?;
+) {
+    push_key_warnings(alloc, warnings, place, plan, &PLAN_KEYS);
+    push_path_warning(warnings, place, plan);
     let branches = branches_of(plan);
-    push_plan_timeout_warning(alloc, warnings, place, plan, branches)?;
+    push_plan_timeout_warning(warnings, place, plan, branches);
     if is_above(plan.get("limit"), branches.len()) {
         let found = Finding::of(
             place,
@@ -57,49 +52,41 @@ fn push_warnings_of_plan<'v>(
             plan.get("limit"),
             Complaint::LimitAboveBranches,
         );
-        warnings.add(alloc, &found)?;
+        warnings.add(&found);
     }
     for (k, branch) in branches.iter().enumerate() {
         let place = place.branch(k + 1);
-        push_key_warnings(alloc, warnings, place, branch, &BRANCH_KEYS)?;
-        push_address_warnings(alloc, warnings, place, branch)?;
-        push_branch_timeout_warning(alloc, warnings, place, plan.get("timeout_ms"), branch)?;
+        push_key_warnings(alloc, warnings, place, branch, &BRANCH_KEYS);
+        push_address_warnings(warnings, place, branch);
+        push_branch_timeout_warning(warnings, place, plan.get("timeout_ms"), branch);
     }
-    Ok(())
 }
 
 /// Adds a warning for a path that looks like a pattern.
-fn push_path_warning<'v>(
-    alloc: Global,
-    warnings: &mut Warnings<'_>,
-    place: Place<'v>,
-    plan: &'v Value,
-) -> Result<(), AllocError> {
+fn push_path_warning<'v>(warnings: &mut Warnings<'_>, place: Place<'v>, plan: &'v Value) {
     let path = text_of(plan, "path");
     if !path.contains('{') && !path.contains('*') {
-        return Ok(());
+        return;
     }
     let found = Finding::of(place, "path", None, Complaint::PathOfPattern);
-    warnings.add(alloc, &found)
+    warnings.add(&found);
 }
 
 /// Adds a warning for a plan whose calls may wait for ever, or don't wait at all.
 fn push_plan_timeout_warning<'v>(
-    alloc: Global,
     warnings: &mut Warnings<'_>,
     place: Place<'v>,
     plan: &'v Value,
     branches: &[Value],
-) -> Result<(), AllocError> {
+) {
     let timeout = plan.get("timeout_ms");
     if timeout.is_none() && !have_timeouts(branches) {
-        warnings.add(alloc, &Finding::at(place, Complaint::NoTimeout))?;
+        warnings.add(&Finding::at(place, Complaint::NoTimeout));
     }
     if timeout.and_then(Value::as_u64) == Some(0) {
         let found = Finding::of(place, "timeout_ms", timeout, Complaint::ZeroTimeout);
-        warnings.add(alloc, &found)?;
+        warnings.add(&found);
     }
-    Ok(())
 }
 
 /// Whether each branch, of which there is one at least, has a timeout.
@@ -118,12 +105,7 @@ fn is_above(limit: Option<&Value>, branches: usize) -> bool {
             .is_some_and(|limit| limit > branches as u64)
 }
 
-fn push_address_warnings<'v>(
-    alloc: Global,
-    warnings: &mut Warnings<'_>,
-    place: Place<'v>,
-    branch: &'v Value,
-) -> Result<(), AllocError> {
+fn push_address_warnings<'v>(warnings: &mut Warnings<'_>, place: Place<'v>, branch: &'v Value) {
     let address = text_of(branch, "address");
     for (is_so, complaint) in [
         (address.contains("//"), Complaint::AddressWithSlashes),
@@ -134,26 +116,24 @@ fn push_address_warnings<'v>(
     ] {
         if is_so {
             let found = Finding::of(place, "address", branch.get("address"), complaint);
-            warnings.add(alloc, &found)?;
+            warnings.add(&found);
         }
     }
-    Ok(())
 }
 
 /// Adds a warning for a branch that expires no sooner than its call by the timeout of its plan.
 fn push_branch_timeout_warning<'v>(
-    alloc: Global,
     warnings: &mut Warnings<'_>,
     place: Place<'v>,
     of_plan: Option<&Value>,
     branch: &'v Value,
-) -> Result<(), AllocError> {
+) {
     let timeout = branch.get("timeout_ms");
     if !is_late(timeout, of_plan) {
-        return Ok(());
+        return;
     }
     let found = Finding::of(place, "timeout_ms", timeout, Complaint::LateTimeout);
-    warnings.add(alloc, &found)
+    warnings.add(&found);
 }
 
 /// Whether a branch's timeout is one, and not below its plan's.
@@ -178,42 +158,42 @@ fn has_no_port(address: &str) -> bool {
     }
 }
 
-/// Adds a warning for each key of an object that is not known, but for those that begin with `_`; with the known one, if
-/// it is near to one.
+/// Adds a warning for each key of an object that is not known, but for those that begin with `_`; with the known one,
+/// if it is near to one.
 pub(crate) fn push_key_warnings<'v>(
     alloc: Global,
     warnings: &mut Warnings<'_>,
     place: Place<'v>,
     object: &'v Value,
     known: &[&'static str],
-) -> Result<(), AllocError> {
+) {
     let Some(members) = object.as_object() else {
-        return Ok(());
+        return;
     };
     for key in members.keys() {
         let key = key.as_str();
-        if let Some(meant) = meant_key(alloc, key, known)? {
-            let found = Finding::of(place, key, None, Complaint::MisspelledKey);
-            warnings.add(alloc, &found.meaning(meant))?;
-        } else if !key.starts_with('_') && !known.iter().any(|name| *name == key) {
-            warnings.add(alloc, &Finding::of(place, key, None, Complaint::IgnoredKey))?;
+        match meant_key(alloc, key, known) {
+            Ok(Some(meant)) => {
+                let found = Finding::of(place, key, None, Complaint::MisspelledKey);
+                warnings.add(&found.meaning(meant));
+            }
+            Ok(None) if !key.starts_with('_') && !known.iter().any(|name| *name == key) => {
+                warnings.add(&Finding::of(place, key, None, Complaint::IgnoredKey));
+            }
+            Ok(None) => {}
+            Err(_) => warnings.refuse(),
         }
     }
-    Ok(())
 }
 
 /// Adds a warning for the first key of a file's objects that stands twice in its object. The text is JSON.
-pub(crate) fn push_repeated_key(
-    alloc: Global,
-    warnings: &mut Warnings<'_>,
-    text: &[u8],
-) -> Result<(), AllocError> {
-    let Some(found) = repeated_key(alloc, text, &FILE_KEYS)? else {
-        return Ok(());
-    };
-    let place = Place::Text(found.line, found.column);
-    warnings.add(
-        alloc,
-        &Finding::of(place, found.key, None, Complaint::RepeatedKey),
-    )
+pub(crate) fn push_repeated_key(alloc: Global, warnings: &mut Warnings<'_>, text: &[u8]) {
+    match repeated_key(alloc, text, &FILE_KEYS) {
+        Ok(Some(found)) => {
+            let place = Place::Text(found.line, found.column);
+            warnings.add(&Finding::of(place, found.key, None, Complaint::RepeatedKey));
+        }
+        Ok(None) => {}
+        Err(_) => warnings.refuse(),
+    }
 }

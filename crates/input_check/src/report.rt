@@ -99,24 +99,30 @@ pub fn script_report(alloc: Global, name: &str, text: &[u8]) -> Result<ScriptRep
 pub fn too_long(alloc: Global, name: &str) -> Result<String, AllocError>
     ensures { IfOk result (λ text. IsRefusal (string_bytes text)) }
 {
-    let mut said = Lines::new(alloc, name);
-    let found = Finding::at(Place::File, Complaint::TooLong);
-    push_finding(alloc, &mut said, &found)?;
-    refused(
-        alloc,
-        &Found {
-            said: said.into_text(),
-            warnings: Warnings::new(alloc, name),
-        },
-    )
+    let mut found = Found::new(alloc, name);
+    push_finding(
+        &mut found.said,
+        &Finding::at(Place::File, Complaint::TooLong),
+    );
+    refused(alloc, &found)
 }
 
 /// What was found.
 #[derive(Drop)]
 struct Found<'n> {
     // what is taken of the file, or why it is refused
-    said: String,
+    said: Lines<'n>,
     warnings: Warnings<'n>,
+}
+
+impl<'n> Found<'n> {
+    /// Nothing yet.
+    fn new(alloc: Global, name: &'n str) -> Found<'n> {
+        Found {
+            said: Lines::new(alloc, name),
+            warnings: Warnings::new(alloc, name),
+        }
+    }
 }
 
 /// The text of a file that is fine.
@@ -125,8 +131,8 @@ fn fine(alloc: Global, found: &Found<'_>) -> Result<String, AllocError>
     ensures warned { IfOk result (λ text. found.now.warnings ≢ [] → Warns (string_bytes text)) }
 {
     let mut text = String::from_str(alloc, "fine: ")?;
-    text.push_str(found.said.as_str())?;
-    text.push_str(found.warnings.as_str())?;
+    text.push_str(found.said.text()?)?;
+    text.push_str(found.warnings.text()?)?;
     Ok(text)
 }
 
@@ -136,8 +142,8 @@ fn refused(alloc: Global, found: &Found<'_>) -> Result<String, AllocError>
     ensures warned { IfOk result (λ text. found.now.warnings ≢ [] → Warns (string_bytes text)) }
 {
     let mut text = String::from_str(alloc, "refused: ")?;
-    text.push_str(found.said.as_str())?;
-    text.push_str(found.warnings.as_str())?;
+    text.push_str(found.said.text()?)?;
+    text.push_str(found.warnings.text()?)?;
     Ok(text)
 }
 
@@ -147,36 +153,28 @@ fn fine_plans<'n>(
     plans: &Plans,
     text: &[u8],
 ) -> Result<Found<'n>, AllocError> {
-    let mut said = Lines::new(alloc, name);
-    let mut warnings = Warnings::new(alloc, name);
-    push_number(&mut said, plans.len(), " plan\n", " plans\n")?;
+    let mut found = Found::new(alloc, name);
+    push_number(&mut found.said, plans.len(), " plan\n", " plans\n");
     if let Ok(value) = read_value(alloc, text)? {
-        push_served(&mut said, plans, elements_of(&value))?;
-        push_repeated_key(alloc, &mut warnings, text)?;
-        push_plan_warnings(alloc, &mut warnings, elements_of(&value))?;
+        push_served(&mut found.said, plans, elements_of(&value));
+        push_repeated_key(alloc, &mut found.warnings, text);
+        push_plan_warnings(alloc, &mut found.warnings, elements_of(&value));
     }
-    Ok(Found {
-        said: said.into_text(),
-        warnings,
-    })
+    Ok(found)
 }
 
 fn refused_plans<'n>(alloc: Global, name: &'n str, text: &[u8]) -> Result<Found<'n>, AllocError> {
-    let mut said = Lines::new(alloc, name);
-    let mut warnings = Warnings::new(alloc, name);
+    let mut found = Found::new(alloc, name);
     match read_value(alloc, text)? {
         Ok(value) => {
-            push_fault(alloc, &mut said, plans_fault(&value))?;
-            push_repeated_key(alloc, &mut warnings, text)?;
-            push_plan_warnings(alloc, &mut warnings, elements_of(&value))?;
+            push_fault(&mut found.said, plans_fault(&value));
+            push_repeated_key(alloc, &mut found.warnings, text);
+            push_plan_warnings(alloc, &mut found.warnings, elements_of(&value));
         }
         // the line of a text that is no JSON
-        Err(error) => push_finding(alloc, &mut said, &json_fault(text, &error))?,
+        Err(error) => push_finding(&mut found.said, &json_fault(text, &error)),
     }
-    Ok(Found {
-        said: said.into_text(),
-        warnings,
-    })
+    Ok(found)
 }
 
 fn fine_script<'n>(
@@ -186,36 +184,28 @@ fn fine_script<'n>(
     events: usize,
     text: &[u8],
 ) -> Result<Found<'n>, AllocError> {
-    let mut said = Lines::new(alloc, name);
-    let mut warnings = Warnings::new(alloc, name);
-    push_number(&mut said, plans.len(), " plan, ", " plans, ")?;
-    push_number(&mut said, events, " event\n", " events\n")?;
+    let mut found = Found::new(alloc, name);
+    push_number(&mut found.said, plans.len(), " plan, ", " plans, ");
+    push_number(&mut found.said, events, " event\n", " events\n");
     if let Ok(script) = read_value(alloc, text)? {
-        push_served(&mut said, plans, plans_of(&script))?;
-        push_repeated_key(alloc, &mut warnings, text)?;
-        push_script_warnings(alloc, &mut warnings, &script)?;
+        push_served(&mut found.said, plans, plans_of(&script));
+        push_repeated_key(alloc, &mut found.warnings, text);
+        push_script_warnings(alloc, &mut found.warnings, &script);
     }
-    Ok(Found {
-        said: said.into_text(),
-        warnings,
-    })
+    Ok(found)
 }
 
 fn refused_script<'n>(alloc: Global, name: &'n str, text: &[u8]) -> Result<Found<'n>, AllocError> {
-    let mut said = Lines::new(alloc, name);
-    let mut warnings = Warnings::new(alloc, name);
+    let mut found = Found::new(alloc, name);
     match read_value(alloc, text)? {
         Ok(script) => {
-            push_fault(alloc, &mut said, script_fault(&script))?;
-            push_repeated_key(alloc, &mut warnings, text)?;
-            push_script_warnings(alloc, &mut warnings, &script)?;
+            push_fault(&mut found.said, script_fault(&script));
+            push_repeated_key(alloc, &mut found.warnings, text);
+            push_script_warnings(alloc, &mut found.warnings, &script);
         }
-        Err(error) => push_finding(alloc, &mut said, &json_fault(text, &error))?,
+        Err(error) => push_finding(&mut found.said, &json_fault(text, &error)),
     }
-    Ok(Found {
-        said: said.into_text(),
-        warnings,
-    })
+    Ok(found)
 }
 
 /// The value of a text, or what the reader of JSON says of it.
@@ -226,13 +216,9 @@ fn read_value(alloc: Global, text: &[u8]) -> Result<Result<Value, Error>, AllocE
     }
 }
 
-fn push_fault(
-    alloc: Global,
-    lines: &mut Lines<'_>,
-    found: Option<Finding<'_>>,
-) -> Result<(), AllocError> {
+fn push_fault(lines: &mut Lines<'_>, found: Option<Finding<'_>>) {
     match found {
-        Some(found) => push_finding(alloc, lines, &found),
-        None => push_finding(alloc, lines, &Finding::at(Place::File, Complaint::Refused)),
+        Some(found) => push_finding(lines, &found),
+        None => push_finding(lines, &Finding::at(Place::File, Complaint::Refused)),
     }
 }

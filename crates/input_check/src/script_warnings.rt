@@ -6,25 +6,20 @@ use crate::plan_warnings::{push_key_warnings, push_plan_warnings};
 use crate::script_fault::{events_of, plans_of};
 use crate::warnings::Warnings;
 use serde_json::Value;
-use std::alloc::{AllocError, Global};
+use std::alloc::Global;
 
 const SCRIPT_KEYS: [&str; 2] = ["plans", "events"];
 
 /// Adds the warnings of a script.
-pub(crate) fn push_script_warnings(
-    alloc: Global,
-    warnings: &mut Warnings<'_>,
-    script: &Value,
-) -> Result<(), AllocError> {
-    push_key_warnings(alloc, warnings, Place::File, script, &SCRIPT_KEYS)?;
-    push_plan_warnings(alloc, warnings, plans_of(script))?;
+pub(crate) fn push_script_warnings(alloc: Global, warnings: &mut Warnings<'_>, script: &Value) {
+    push_key_warnings(alloc, warnings, Place::File, script, &SCRIPT_KEYS);
+    push_plan_warnings(alloc, warnings, plans_of(script));
     for (k, event) in events_of(script).iter().enumerate() {
         if has_bare_lf(event) {
             let found = Finding::at(Place::FormedEvent(k, Form::Piece), Complaint::BareLf);
-            warnings.add(alloc, &found)?;
+            warnings.add(&found);
         }
     }
-    Ok(())
 }
 
 /// Whether an event is a piece with the first line of a head in it, and a line up to the head's end ends in LF alone.

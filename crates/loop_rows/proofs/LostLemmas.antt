@@ -1,11 +1,11 @@
 -- What a loop with one job goes on with.
-use Rattle.std.proofs.Common.{◌≡◌, ℕ, zero, suc, ◌+◌, List, [], ◌∷◌, ◌++◌, length, Option, None, Some, ap, append-nil, arith, refl, sym, ◌∙◌}
+use Rattle.std.proofs.Common.{◌≡◌, ℕ, zero, suc, List, [], ◌∷◌, ◌++◌, length, Option, None, Some, ap, arith, refl, sym, ◌∙◌}
 use Rattle.std.proofs.lemmas.List.{length-append}
 use Rattle.std.proofs.lemmas.List.Elements.{All-nil}
 use Rattle.connect_codec.specs.declared.answer.Outcome.{Outcome}
 use Rattle.gateway_model.specs.Job.{JobValue}
-use Rattle.gateway_model.specs.Queue.{IsPrefixOf}
 use Rattle.gateway_theory.specs.Values.{GatewayValue}
+use Rattle.gateway_theory.specs.lemmas.PastLemmas.{prefix-refl}
 use Rattle.std.specs.declared.net.socket_addr.SocketAddr.{SocketAddr}
 use Rattle.loop_model.specs.Asking.{AskingValue, BeginsRequest, EndedValue, IsUntouched, ended_value, request_of}
 use Rattle.loop_model.specs.Clients.{ClientValue}
@@ -28,19 +28,16 @@ no_peer a e = cc
 none_there : (b : ClientValue) → None ≡ Some b → ⊥
 none_there b e = cc
 
-pub same : {A : Type 0} (xs : List A) → IsPrefixOf xs xs
-same xs = ([], sym (append-nil xs))
-
 -- nobody is there, and this is more
 pub side_on : (v : GatewayValue) (results more : List (JobValue × Option Outcome)) (handed : List JobValue)
     → Continues (loop_of v results handed [] []).side (loop_of v (results ++ more) handed [] []).side
 side_on v results more handed = record {
   plans = refl;
   clients = λ i x is. absurd (none_there x (nobody i ∙ is));
-  gone = same [];
-  told = same [];
+  gone = prefix-refl [];
+  told = prefix-refl [];
   results = (more, refl);
-  handed = same handed;
+  handed = prefix-refl handed;
   drained = refl;
 }
   where

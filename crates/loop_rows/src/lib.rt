@@ -1,6 +1,5 @@
-//! The worked rows of a loop: what explains a client and what does not, whose connections are, when it drains, which moments and results
-//! are handed in, and how exchanges end.
-//! Nothing of it runs.
+//! The worked rows of a loop: what explains a client and what does not, whose connections are, when it drains, which
+//! moments and results are handed in, and how exchanges end. Nothing of it runs.
 #![tactic(auto)]
 
 mod rows_of_clients;

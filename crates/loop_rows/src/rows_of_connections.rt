@@ -7,15 +7,15 @@ ghost use Rattle.loop_model.specs.Clients.{ClientValue};
 ghost use Rattle.loop_model.specs.Explained.{IsExplainedBy, count_of, one_below};
 ghost use Rattle.loop_rows.specs.LoopRows.{client_of, with_clients};
 
-/// Of two connections that were opened one is that of a client who is there, and one of a client who is gone. Where none was opened
-/// nobody is there.
+/// Of two connections that were opened one is that of a client who is there, and one of a client who is gone. Where
+/// none was opened nobody is there.
 fn connections_of_clients()
     ensures none { (v : GatewayValue) (c : ℕ) → count_of c (with_clients v [] []) ≡ one_below c 0 }
     ensures each { (v : GatewayValue) (c : ℕ) → count_of c (with_clients v (Some (client_of 1) ∷ []) (client_of 0 ∷ [])) ≡ one_below c 2 }
 {}
 
-/// No two clients have one connection, whether they are there or gone; each connection that was opened is some client's; and no client
-/// has a number that is of none.
+/// No two clients have one connection, whether they are there or gone; each connection that was opened is some
+/// client's; and no client has a number that is of none.
 fn other_connections()
     ensures two_there { (u : Outcome) (v : GatewayValue) (x y : ClientValue) → y.conn ≡ x.conn
         → IsExplainedBy u (with_clients v (Some x ∷ Some y ∷ []) []) → ⊥ }

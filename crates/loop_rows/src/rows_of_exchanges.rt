@@ -10,8 +10,8 @@ ghost use Rattle.http_pieces.specs.declared.reply.HttpReply.{HttpReply};
 ghost use Rattle.loop_model.specs.Asking.{IsFair, request_of, stream_value};
 ghost use Rattle.loop_rows.specs.LoopRows.{ended};
 
-/// An exchange ends by its reply, once its request was written whole; by none, wherever it stands; or for want of memory. Streams that
-/// were given up before are no matter, where nothing was written to them.
+/// An exchange ends by its reply, once its request was written whole; by none, wherever it stands; or for want of
+/// memory. Streams that were given up before are no matter, where nothing was written to them.
 fn fair_ends()
     ensures answered { (a : SocketAddr) (j : JobValue) (reply : HttpReply) (given rest : List ℕ) → IsCut reply_kind given (Complete reply rest)
         → IsFair (ended a j [] given (request_of j) (Some (outcome_of (Some reply)))) }
@@ -20,7 +20,8 @@ fn fair_ends()
     ensures another_tried { (a : SocketAddr) (j : JobValue) → IsFair (ended a j (stream_value a [] [] false ∷ []) [] [] (Some (outcome_of None))) }
 {}
 
-/// No request is written twice, or otherwise, or to two streams; and no answer is made up, or given before the request was written.
+/// No request is written twice, or otherwise, or to two streams; and no answer is made up, or given before the request
+/// was written.
 fn other_ends()
     ensures twice { (a : SocketAddr) (j : JobValue) (given : List ℕ) (o : Option Outcome) → IsFair (ended a j [] given (request_of j ++ request_of j) o) → ⊥ }
     ensures otherwise { (a : SocketAddr) (j : JobValue) (given : List ℕ) (o : Option Outcome) → IsFair (ended a j [] given (codes "GET") o) → ⊥ }

@@ -16,8 +16,8 @@ fn jobs_of_a_loop()
         → AsksFairly (loop_of v ((e.asking.job, e.outcome) ∷ []) (e.asking.job ∷ []) (None ∷ []) (e ∷ [])) }
 {}
 
-/// None is dropped, asked for untaken, by another request or elsewhere, or recorded without an end, twice, never, or for another job; and what ended
-/// stays.
+/// None is dropped, asked for untaken, by another request or elsewhere, or recorded without an end, twice, never, or
+/// for another job; and what ended stays.
 fn other_jobs()
     ensures dropped { (v : GatewayValue) (j : JobValue) → AsksFairly (loop_of v [] (j ∷ []) (None ∷ []) []) → ⊥ }
     ensures untaken { (v : GatewayValue) (j : JobValue) → AsksFairly (loop_of v [] [] (Some (asking j) ∷ []) []) → ⊥ }
@@ -44,7 +44,8 @@ fn jobs_that_go_on()
         → ContinuesLoop (asks v (asked a j [] given got)) (loop_of v ((j, o) ∷ []) (j ∷ []) (None ∷ []) (ended a j [] (given ++ more) got o ∷ [])) }
 {}
 
-/// What was read or written for it is not forgotten, no other takes its place, and neither it nor its stream is dropped unseen.
+/// What was read or written for it is not forgotten, no other takes its place, and neither it nor its stream is
+/// dropped unseen.
 fn jobs_that_are_lost()
     ensures forgotten { (a : SocketAddr) (v : GatewayValue) (j : JobValue) → ContinuesLoop (asks v (asked a j [] [] (codes "P"))) (asks v (asking j)) → ⊥ }
     ensures another { (v : GatewayValue) → ContinuesLoop (asks v (asking (job 0 1 2))) (asks v (asking (job 0 1 3))) → ⊥ }

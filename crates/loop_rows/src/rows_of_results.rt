@@ -5,7 +5,8 @@ ghost use Rattle.gateway_model.specs.declared.event.Event.TheVariants.{BranchRes
 ghost use Rattle.loop_model.specs.Handed.{IsResultOf, results};
 ghost use Rattle.loop_rows.specs.LoopRows.{job, result_of};
 
-/// The result of a job is that of its call and its branch, with what was recorded; where there was no memory for that, whatever it was.
+/// The result of a job is that of its call and its branch, with what was recorded; where there was no memory for that,
+/// whatever it was.
 fn results_of_jobs()
     ensures own { (unknown : Outcome) → IsResultOf unknown (result_of 0 1 2 (Outcome.Answer (codes "{}"))) (job 0 1 2, Some (Outcome.Answer (codes "{}"))) }
     ensures any { (unknown : Outcome) → IsResultOf unknown (result_of 0 1 2 unknown) (job 0 1 2, None) }

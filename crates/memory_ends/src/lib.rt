@@ -1,5 +1,5 @@
-//! Ends in memory, for tests and for whoever reads the contracts: a desk, streams, an inlet and a queue of replies, which
-//! tell what they were given.
+//! Ends in memory, for tests and for whoever reads the contracts: a desk, streams, an inlet and a queue of replies,
+//! which tell what they were given.
 #![tactic(auto)]
 
 mod desk;

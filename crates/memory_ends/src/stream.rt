@@ -21,8 +21,8 @@ pub enum StreamStep {
     Fails(ErrorKind),
 }
 
-/// A stream over memory that does not wait. Its reads and writes follow a script each, and behind it move all that they can. Its end
-/// (`MemoryEnd`) tells what was written.
+/// A stream over memory that does not wait. Its reads and writes follow a script each, and behind it move all that
+/// they can. Its end (`MemoryEnd`) tells what was written.
 #[derive(Drop)]
 pub struct MemoryStream {
     // none where no connection could be made

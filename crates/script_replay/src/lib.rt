@@ -1,5 +1,5 @@
-//! The side of the program that reads files: it reads plan files and scripts, replays a script, and says how the program
-//! ends where that fails.
+//! The side of the program that reads files: it reads plan files and scripts, replays a script, and says how the
+//! program ends where that fails.
 #![tactic(auto)]
 
 mod fault;

@@ -3,8 +3,8 @@ use std::io::{self, ErrorKind, Write};
 /// A write that a signal interrupts is made so often at most.
 const MOST_TRIES: u32 = 1_000;
 
-/// A writer that makes a write again which a signal interrupts: one of a long slice goes past a `BufWriter`, which does so for
-/// what it keeps alone.
+/// A writer that makes a write again which a signal interrupts: one of a long slice goes past a `BufWriter`, which
+/// does so for what it keeps alone.
 #[derive(Drop)]
 pub(crate) struct Patient<W> {
     pub(crate) inner: W,

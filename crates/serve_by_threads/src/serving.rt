@@ -45,7 +45,8 @@ pub(crate) fn serve<M: Host + Net<Listener = TcpListener, Stream = TcpStream>>(
     serve_with::<M, Brand, Brand, Brand>(rt, alloc, plans, blanks, listener, workers)
 }
 
-/// Serves one stream by threads: two for its sides, so many workers, and one for the clock. It ends once the stream has.
+/// Serves one stream by threads: two for its sides, so many workers, and one for the clock. It ends once the stream
+/// has.
 pub(crate) fn serve_with<
     M: Host + Net<Listener = TcpListener, Stream = TcpStream>,
     L: Ledger + Send + Sync + 'static,
@@ -144,8 +145,8 @@ fn start_worker<
     Ok(thread::spawn(&server.rt, job)?)
 }
 
-/// Serves the next stream by its two sides, each in a thread of its own. Behind the last reply it is shut down both ways, which
-/// ends its read.
+/// Serves the next stream by its two sides, each in a thread of its own. Behind the last reply it is shut down both
+/// ways, which ends its read.
 fn serve_next<
     M: Host + Net<Listener = TcpListener, Stream = TcpStream>,
     L: Ledger + Send + Sync + 'static,

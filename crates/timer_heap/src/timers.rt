@@ -135,8 +135,8 @@ impl Timers {
         self.heap.len()
     }
 
-    /// How many exchanges of two places the last `set`, `stop` or `pop_due` made, where the last entry's move to a place
-    /// that was left is one. It is 0 where that call took nothing in and nothing out.
+    /// How many exchanges of two places the last `set`, `stop` or `pop_due` made, where the last entry's move to a
+    /// place that was left is one. It is 0 where that call took nothing in and nothing out.
     pub fn last_moves(&self) -> u32
         ensures { result ≡ self.now.moves }
     {

@@ -1,7 +1,7 @@
 //! Streams whose reads and writes do not wait, and what waits to be written to one.
 //!
-//! A `Wire` tells, for proofs, all the bytes that were read from it and written to it. `Told` makes a wire of any `Stream`, as of a
-//! socket: it notes each read and write in a history that takes no memory.
+//! A `Wire` tells, for proofs, all the bytes that were read from it and written to it. `Told` makes a wire of any
+//! `Stream`, as of a socket: it notes each read and write in a history that takes no memory.
 #![tactic(auto)]
 
 mod got;

@@ -12,8 +12,8 @@ pub trait Stream: Read + Write {
     fn shut_sending(&self) -> io::Result<()>;
 }
 
-/// Any stream as a `Wire`, whether or not it tells its bytes: proofs see those that its reads put into the piece, and those that its
-/// writes said to have taken.
+/// Any stream as a `Wire`, whether or not it tells its bytes: proofs see those that its reads put into the piece, and
+/// those that its writes said to have taken.
 #[derive(Drop)]
 pub struct Told<S> {
     stream: S,

@@ -27,10 +27,11 @@ impl<H> AfterFuncs<H> {
         }
     }
 
-    /// Registers a hook on a context. It waits until `fire` says that the context has ended; where the context is `done`
-    /// already, the hook is due at once.
+    /// Registers a hook on a context. It waits until `fire` says that the context has ended; where the context is
+    /// `done` already, the hook is due at once.
     ///
-    /// A hook that is refused comes back, beside the reason: `Exhausted` once 2^62 hooks were registered, else `Memory`.
+    /// A hook that is refused comes back, beside the reason: `Exhausted` once 2^62 hooks were registered, else
+    /// `Memory`.
     pub fn after_func(
         &mut self,
         ctx: CtxId,

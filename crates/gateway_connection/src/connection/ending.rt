@@ -15,8 +15,8 @@ use gateway_theory::Trigger;
 use std::alloc::AllocError;
 
 impl Connection {
-    /// Its calls end whose contexts this has ended: their replies go into their slots once all are made. True where memory was
-    /// refused to one: then it breaks.
+    /// Its calls end whose contexts this has ended: their replies go into their slots once all are made. True where
+    /// memory was refused to one: then it breaks.
     pub fn end_calls<H: ReplyHook + Drop>(
         &mut self,
         shared: &mut Shared<H>,
@@ -66,7 +66,11 @@ impl Connection {
         let Some(event) = shared.contexts.ending(&id, shared.moment) else {
             return Ok(());
         };
-        shared.made.reserve(1)?;
+        if shared.made.reserve(1).is_err() {
+            // by hand: one call, where a drop at a `?` is a match over all that an event can be
+            drop(event);
+            return Err(AllocError);
+        }
         let call = &mut self.calls[index];
         shared.jobs.release(call.waiting());
         let reply = call.end(shared.alloc, &mut shared.contexts, event)?;

@@ -4,6 +4,7 @@ ghost use Rattle.std.specs.Arc.{arc_value};
 ghost use Rattle.http_pieces.specs.Request.{most_requests};
 ghost use Rattle.gateway_model.specs.Arrival.{arrival_of, plan_of};
 ghost use Rattle.gateway_model.specs.Occurrence.{Coming};
+ghost use Rattle.gateway_model.specs.declared.entry.ReplyEntry.TheVariants.{Refused};
 ghost use Rattle.gateway_replies.specs.Contexts.{KeepsOthers};
 ghost use Rattle.gateway_replies.specs.Hooks.{TakesAtMostOne};
 ghost use Rattle.gateway_theory.specs.Begins.{begins};
@@ -12,9 +13,10 @@ ghost use Rattle.gateway_theory.specs.Step.{step_to};
 ghost use Rattle.gateway_theory.specs.Values.{gone};
 ghost use Rattle.gateway_theory.specs.Task.{job_at};
 ghost use Rattle.gateway_theory.specs.declared.fault.StepFault.TheVariants as fault;
-ghost use Rattle.gateway_theory.specs.Held.{IsFault, arriving_in, begins_call, entered_held, most_begun, next_held};
-ghost use Rattle.gateway_connection.specs.Comes.{Arrives, Begins, Enters, MayFail, asking};
-ghost use Rattle.gateway_connection.specs.Lent.{MayCome};
+ghost use Rattle.gateway_theory.specs.Held.{IsFault, arriving_in, coming_of, entered_held, hears, most_begun, next_held};
+ghost use Rattle.gateway_connection.specs.Comes.{Arrives, Begins, Brings, BringsNone, MayFail, asking};
+ghost use Rattle.gateway_connection.specs.Lent.{MayCome, MayStep};
+ghost use Rattle.gateway_connection.specs.Linked.{none_over};
 
 use crate::arriving::Arriving;
 use crate::begin::{Begun, begin};
@@ -31,8 +33,8 @@ use gateway_replies::{
     ArrivedCall, Reply, ReplyHook, crowded_reply, judged_reply, refused_reply, reply_to,
 };
 use gateway_theory::StepFault;
-use http_pieces::{Refusal, Request};
-use std::alloc::AllocError;
+use http_pieces::{Refusal, Request, State};
+use std::alloc::{AllocError, Global};
 use std::collections::VecDeque;
 use std::sync::Arc;
 
@@ -40,41 +42,40 @@ use std::sync::Arc;
 const MOST_BEGUN: u64 = 1 << 56;
 
 impl Connection {
-    /// A request comes: it is answered at once, or begins a call. At a fault it has not come, but contexts of its call may be left.
+    /// A request comes, or the refusal that its stream has come to: it is answered at once, or begins a call. At a
+    /// fault it has not come, but contexts of its call may be left.
     pub(crate) fn take_in<H: ReplyHook + Drop>(
         &mut self,
         shared: &mut Shared<H>,
-        request: Request,
+        request: Option<Request>,
     ) -> Result<(), StepFault>
-        requires { MayCome self.old shared.old }
-        ensures ok { OnOk result (Enters (arriving_in shared.old.moment shared.old.contexts.standing.drained
-            (Coming.Request request (arrival_of shared.old.plans request)) self.old) self.old self.new shared.old shared.new) }
-        ensures err { OnErr result (MayFail self.old self.new shared.old shared.new) }
-        ensures fault { IfErr result (λ f. IsFault f shared.old.begun (begins_call (arriving_in shared.old.moment shared.old.contexts.standing.drained
-            (Coming.Request request (arrival_of shared.old.plans request)) self.old))) }
+        requires may { MayStep none_over self.old shared.old }
+        requires on { hears self.old ≡ true }
+        requires room { (x : Coming) → coming_of shared.old.plans request self.old.reader.reading ≡ Some x → (next_held self.old).request < most_requests }
+        ensures ok { OnOk result (Brings (coming_of shared.old.plans request self.old.reader.reading) self.old self.new shared.old shared.new) }
+        ensures err { IfErr result (λ fault. BringsNone (coming_of shared.old.plans request self.old.reader.reading) fault self.old self.new shared.old shared.new) }
     {
-        match self.arriving(shared, request)? {
-            Arriving::Answered(reply) => self.answer(reply)?,
-            Arriving::Begins(asked) => self.begin(shared, asked)?,
+        match request {
+            Some(request) => match self.arriving(shared, request)? {
+                Arriving::Answered(reply) => self.answer(reply),
+                Arriving::Begins(asked) => self.begin(shared, asked),
+            },
+            None => match self.reader.state() {
+                State::Refused(refusal) => self.refuse(shared.alloc, refusal),
+                State::More | State::Complete | State::Ended => Ok(()),
+            },
         }
-        Ok(())
     }
 
     /// The stream is refused.
-    pub(crate) fn refuse<H: ReplyHook + Drop>(
-        &mut self,
-        shared: &mut Shared<H>,
-        refusal: Refusal,
-    ) -> Result<(), StepFault>
-        requires { MayCome self.old shared.old }
-        ensures ok { OnOk result (Enters (arriving_in shared.old.moment shared.old.contexts.standing.drained (Coming.Refused refusal) self.old)
-            self.old self.new shared.old shared.new) }
-        ensures err { OnErr result (MayFail self.old self.new shared.old shared.new) }
+    fn refuse(&mut self, alloc: Global, refusal: Refusal) -> Result<(), StepFault>
+        requires { (next_held self.old).request < most_requests }
+        ensures ok { OnOk result (self.new ≡ entered_held (step_to gone (Some (Refused refusal)) []) self.old) }
+        ensures err { OnErr result (self.new ≡ self.old) }
         ensures fault { IfErr result (λ f. f ≡ fault.Memory) }
     {
-        let reply = refused_reply(shared.alloc, self.next_id(), refusal)?;
-        self.answer(reply)?;
-        Ok(())
+        let reply = refused_reply(alloc, self.next_id(), refusal)?;
+        self.answer(reply)
     }
 
     /// What a request comes to. A call gets its context; nothing else changes.
@@ -115,8 +116,8 @@ impl Connection {
         }
     }
 
-    /// What a call that is asked for comes to: it is crowded out, ends as it comes, where its context has ended by its making, or
-    /// begins.
+    /// What a call that is asked for comes to: it is crowded out, ends as it comes, where its context has ended by its
+    /// making, or begins.
     fn asking<H: ReplyHook + Drop>(
         &self,
         shared: &mut Shared<H>,
@@ -148,13 +149,16 @@ impl Connection {
     }
 
     /// What comes is answered at once.
-    fn answer(&mut self, reply: Reply) -> Result<(), AllocError>
+    fn answer(&mut self, reply: Reply) -> Result<(), StepFault>
         requires its { reply.id ≡ next_held self.old }
         requires room { (next_held self.old).request < most_requests }
         ensures ok { OnOk result (self.new ≡ entered_held (step_to gone (Some reply.entry) []) self.old) }
         ensures err { OnErr result (self.new ≡ self.old) }
+        ensures fault { IfErr result (λ f. f ≡ fault.Memory) }
     {
-        self.slots.push_back(Some(reply))?;
+        let Ok(()) = self.slots.push_back(Some(reply)) else {
+            return Err(StepFault::Memory);
+        };
         Ok(())
     }
 

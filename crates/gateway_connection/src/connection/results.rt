@@ -23,7 +23,8 @@ use gateway_theory::Took;
 use std::alloc::AllocError;
 
 impl Connection {
-    /// A branch of the call of that request ends with that outcome. Where memory is refused to what this starts or decides, it breaks.
+    /// A branch of the call of that request ends with that outcome. Where memory is refused to what this starts or
+    /// decides, it breaks.
     pub fn result<H: ReplyHook + Drop>(
         &mut self,
         shared: &mut Shared<H>,
@@ -37,6 +38,8 @@ impl Connection {
         ensures begun { shared.new.begun ≡ shared.old.begun }
     {
         let Some(index) = self.out_at(request, branch) else {
+            // by hand, as where a call is late
+            drop(outcome);
             return Took::unknown();
         };
         let seen = self.calls[index].seen();
@@ -90,8 +93,8 @@ impl Connection {
         Some(index)
     }
 
-    /// The call makes its step: the branch that starts next has its job, and a reply goes into its slot. Where memory is refused,
-    /// nothing was queued, and the call has made its step or none.
+    /// The call makes its step: the branch that starts next has its job, and a reply goes into its slot. Where memory
+    /// is refused, nothing was queued, and the call has made its step or none.
     fn settle<H: ReplyHook + Drop>(
         &mut self,
         shared: &mut Shared<H>,
@@ -133,7 +136,14 @@ impl Connection {
         let call = &mut self.calls[index];
         shared.contexts.apart_law();
         call.going_law();
-        call.pass_on(&mut shared.contexts, branch, &outcome, shared.moment)?;
+        if call
+            .pass_on(&mut shared.contexts, branch, &outcome, shared.moment)
+            .is_err()
+        {
+            // by hand, as where a call is late
+            drop(outcome);
+            return Err(AllocError);
+        }
         let waited = call.waiting();
         let taken = call.take_result(branch, outcome, shared.moment);
         let fewer = waited - call.waiting();

@@ -1,10 +1,8 @@
 //! The stream of a connection.
-ghost use Rattle.std.specs.Prelude.{◌≡◌, ◌<◌, [], IfErr, IfOk, OnOk, Some, false, true};
+ghost use Rattle.std.specs.Prelude.{◌≡◌, [], IfErr, IfOk, false, true};
 ghost use Rattle.http_pieces.specs.Reader.{is_over};
-ghost use Rattle.http_pieces.specs.Request.{most_requests};
-ghost use Rattle.gateway_theory.specs.Held.{HangsUp, HasBrought, coming_of, hears, hung_held, next_held};
-ghost use Rattle.gateway_model.specs.Occurrence.{Coming as Comings};
-ghost use Rattle.gateway_connection.specs.Comes.{Brings, BringsNone, Feeds, ReadsAll, ReadsNone};
+ghost use Rattle.gateway_theory.specs.Held.{HangsUp, HasBrought, hears, hung_held};
+ghost use Rattle.gateway_connection.specs.Comes.{Feeds, ReadsAll, ReadsNone};
 ghost use Rattle.gateway_connection.specs.Lent.{LeavesRest, MayStep};
 ghost use Rattle.gateway_connection.specs.Linked.{none_over};
 ghost use Rattle.gateway_connection.specs.OwnContexts.{IsTied};
@@ -13,7 +11,6 @@ use crate::connection::Connection;
 use crate::shared::Shared;
 use gateway_replies::ReplyHook;
 use gateway_theory::{StepFault, Trigger};
-use http_pieces::{Request, State};
 
 impl Connection {
     /// Takes bytes of its stream, at most up to the end of a request, and answers how many.
@@ -57,29 +54,8 @@ impl Connection {
     {
         let taken = self.reader.push(bytes)?;
         let request = self.reader.take();
-        self.bring(shared, request)?;
+        self.take_in(shared, request)?;
         Ok(taken)
-    }
-
-    /// The request comes, or the refusal that its stream has come to.
-    fn bring<H: ReplyHook + Drop>(
-        &mut self,
-        shared: &mut Shared<H>,
-        request: Option<Request>,
-    ) -> Result<(), StepFault>
-        requires may { MayStep none_over self.old shared.old }
-        requires on { hears self.old ≡ true }
-        requires room { (x : Comings) → coming_of shared.old.plans request self.old.reader.reading ≡ Some x → (next_held self.old).request < most_requests }
-        ensures ok { OnOk result (Brings (coming_of shared.old.plans request self.old.reader.reading) self.old self.new shared.old shared.new) }
-        ensures err { IfErr result (λ fault. BringsNone (coming_of shared.old.plans request self.old.reader.reading) fault self.old self.new shared.old shared.new) }
-    {
-        match request {
-            Some(request) => self.take_in(shared, request),
-            None => match self.reader.state() {
-                State::Refused(refusal) => self.refuse(shared, refusal),
-                State::More | State::Complete | State::Ended => Ok(()),
-            },
-        }
     }
 
     /// Its peer hung up: its calls end, and no more of its stream is read. The contexts are told of it.

@@ -19,8 +19,11 @@ loop-twig-preserved g c =
           (c.loop-twig.invariant.1 base conns id s placed) c.in-Some.twig c.in-Some.ensures.taken c.free.new.tree c.free.ensures,
     )
 
-pub returns : goal.returns
-returns g c = λ base conns id s placed.
+pub returns-clause-length : goal.returns-clause-length
+returns-clause-length g c = length-set c.loop-twig.calls.items c.args.place _ ∙ c.loop-twig.invariant.0
+
+pub returns-clause-gone : goal.returns-clause-gone
+returns-clause-gone g c = λ base conns id s placed.
     let lt : c.args.place < length c.loop-twig.calls.items = omega (arith, c.requires, c.loop-twig.invariant.0) in
     all_gone id c.args.place base conns c.args.calls.now.items c.loop-twig.calls.items c.index_mut.result.now c.take_last.new.self lt c.index_mut.ensures.value
     (c.loop-twig.invariant.1 base conns id s placed) c.in_default.ensures.none c.in_default.ensures.unchanged

@@ -1,5 +1,6 @@
 use Rattle.gateway_connection.specs.lemmas.Names.{◌≡◌, arith, ap, sym, ◌∙◌, length, min, subst, Some, arc_value, PlanRecord, IsKept, HasGone, live_value, ArrivedCall, deadline_from, map, range_with_len}
 use Rattle.gateway_connection.proofs.GroupLemmas.{begun_kept, is_begun}
+use Rattle.gateway_connection.proofs.ResultLemmas.{none_ok}
 use Rattle.gateway_connection.proofs.begin.begin.Goals as goal
 
 pub invariant_of-call : goal.invariant_of-call
@@ -47,3 +48,21 @@ invariant_of-live c =
       omega (arith, c.in_ok-events.ensures.capacity, ap length c.branches-count.ensures.branches, view),
       omega (arith, c.in_ok-deadlines.ensures.room, ap (λ (p : PlanRecord). length p.branches) c.deref-3.ensures),
     )
+
+pub returns-in_err-plan : goal.returns-in_err-plan
+returns-in_err-plan c = none_ok _ _ c.from_residual.result c.from_residual.ensures.1
+
+pub returns-in_err-asked : goal.returns-in_err-asked
+returns-in_err-asked c = none_ok _ _ c.from_residual-in_err-asked.result c.from_residual-in_err-asked.ensures.1
+
+pub returns-in_err-events : goal.returns-in_err-events
+returns-in_err-events c = none_ok _ _ c.from_residual-in_err-events.result c.from_residual-in_err-events.ensures.1
+
+pub returns-in_err-deadlines : goal.returns-in_err-deadlines
+returns-in_err-deadlines c = none_ok _ _ c.from_residual-in_err-deadlines.result c.from_residual-in_err-deadlines.ensures.1
+
+pub returns-in_err-out : goal.returns-in_err-out
+returns-in_err-out c = none_ok _ _ c.from_residual-in_err-out.result c.from_residual-in_err-out.ensures.1
+
+pub returns-in_err-first : goal.returns-in_err-first
+returns-in_err-first c = none_ok _ _ c.from_residual-in_err-first.result c.from_residual-in_err-first.ensures.1

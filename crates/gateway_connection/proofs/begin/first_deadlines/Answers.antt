@@ -1,4 +1,5 @@
-use Rattle.gateway_connection.specs.lemmas.Names.{◌+◌, ◌++◌, [], ◌∷◌, map, length, sym, ap, ◌∙◌, arith, deadline_from, map-range_with_len_more, range_with_len}
+use Rattle.gateway_connection.specs.lemmas.Names.{◌++◌, [], ◌∷◌, map, length, sym, ap, ◌∙◌, arith, deadline_from, map-range_with_len_more, range_with_len, ◌≡◌}
+use Rattle.gateway_connection.proofs.ResultLemmas.{none_ok}
 use Rattle.gateway_connection.proofs.begin.first_deadlines.Goals as goal
 
 pub loop-branch-init : goal.loop-branch-init
@@ -19,3 +20,17 @@ loop-branch-preserved c = (
   omega (arith, c.push_reserved.ensures.len, c.loop-branch.invariant.1),
   omega (arith, c.push_reserved.ensures.capacity, c.loop-branch.invariant.2),
 )
+
+pub returns-in_err-deadlines-clause-items : goal.returns-in_err-deadlines-clause-items
+returns-in_err-deadlines-clause-items c = none_ok _ _ c.from_residual.result c.from_residual.ensures.1
+
+pub returns-in_err-deadlines-clause-room : goal.returns-in_err-deadlines-clause-room
+returns-in_err-deadlines-clause-room c = none_ok _ _ c.from_residual.result c.from_residual.ensures.1
+
+pub returns-clause-items : goal.returns-clause-items
+returns-clause-items c =
+    let all : c.loop-branch.branch ≡ c.args.first = omega arith in
+    c.loop-branch.invariant.0 ∙ ap (λ n. map (deadline_from c.args.moment c.args.plan.now) (range_with_len 0 n)) all
+
+pub returns-clause-room : goal.returns-clause-room
+returns-clause-room c = c.loop-branch.invariant.2

@@ -1,5 +1,6 @@
 use Rattle.gateway_connection.specs.lemmas.Names.{◌≡◌, ℕ, suc, ◌+◌, min, length, refl, sym, ap, ◌∙◌, arith, subst, arc_value, PlanRecord, branch_started, first_started, ArrivedCall, deadline_from, ContextsValue, KeepsOthers, is_life, first_ones}
 use Rattle.gateway_connection.proofs.TimedLemmas.{first_known, first_others}
+use Rattle.gateway_connection.proofs.ResultLemmas.{none_on}
 use Rattle.gateway_connection.proofs.times.start_first.Goals as goal
 
 pub loop-branch-init : goal.loop-branch-init
@@ -48,3 +49,6 @@ returns-in_err-start_branch-clause-stocks g c = c.in_err-start_branch.ensures.st
 
 pub returns-clause-stocks : goal.returns-clause-stocks
 returns-clause-stocks g c = c.loop-branch.invariant.1
+
+pub returns-in_err-start_branch-clause-ok : goal.returns-in_err-start_branch-clause-ok
+returns-in_err-start_branch-clause-ok g c = none_on _ _ c.from_residual.result c.from_residual.ensures.1

@@ -45,3 +45,18 @@ returns-in_err-ending-clause-once g c = err_if c.from_residual.result (inl refl)
 
 pub returns-in-Some-clause-bytes : goal.returns-in-Some-clause-bytes
 returns-in-Some-clause-bytes g c = bytes_told c.args.call.now c.in-Some.ending c.end.result (sym c.in-Some.is ∙ c.in_ok-ending.ensures) c.end.ensures.duty
+
+pub returns-in-None-clause-gone : goal.returns-in-None-clause-gone
+returns-in-None-clause-gone g c = ok_if c.joined.result c.abandon.ensures.gone
+
+pub returns-in-None-clause-stocks : goal.returns-in-None-clause-stocks
+returns-in-None-clause-stocks g c = c.abandon.ensures.hooks.stocks_are
+
+pub returns-in-Some-clause-gone : goal.returns-in-Some-clause-gone
+returns-in-Some-clause-gone g c = ok_if c.end.result c.end.ensures.gone
+
+pub returns-in-Some-clause-stocks : goal.returns-in-Some-clause-stocks
+returns-in-Some-clause-stocks g c = c.end.ensures.hooks.stocks_are
+
+pub returns-in_err-ending-clause-stocks : goal.returns-in_err-ending-clause-stocks
+returns-in_err-ending-clause-stocks g c = refl

@@ -4,5 +4,5 @@ use Rattle.input_check.proofs.report.fine.Goals as goal
 
 pub returns-clause-warned : goal.returns-clause-warned
 returns-clause-warned c = λ some.
-    warns _ c.as_str-2.result.now _ c.in_ok-push_str-2.ensures.bytes c.as_str-2.ensures.warnings
-    (λ none. some (sym c.as_str-2.ensures.text ∙ none))
+    warns _ c.in_ok-text-3.field-0.now _ c.in_ok-push_str-2.ensures.bytes c.in_ok-text-3.ensures.warnings
+    (λ none. some (sym c.in_ok-text-3.ensures.text ∙ none))

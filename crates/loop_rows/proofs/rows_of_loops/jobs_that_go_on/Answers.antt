@@ -2,7 +2,8 @@ use Rattle.std.proofs.Common.{[], ◌∷◌, ◌++◌, Some, ap, false, inl, inr
 use Rattle.loop_model.specs.Asking.{AskingValue, stream_value}
 use Rattle.loop_model.specs.Whole.{AsksOn, asked_at}
 use Rattle.loop_rows.specs.LoopRows.{asked, asking, ended}
-use Rattle.loop_rows.proofs.LostLemmas.{alone, same, side_on}
+use Rattle.gateway_theory.specs.lemmas.PastLemmas.{prefix-refl}
+use Rattle.loop_rows.proofs.LostLemmas.{alone, side_on}
 use Rattle.loop_rows.proofs.rows_of_loops.jobs_that_go_on.Goals as goal
 
 pub returns-clause-more : goal.returns-clause-more
@@ -11,8 +12,8 @@ returns-clause-more c h v j given got more =
       side = side_on v [] [] (j ∷ []);
       asking = λ i x is.
           let a = alone i (asked h j [] given got) x is in
-          (y, inl (ap (λ n. asked_at n (Some y ∷ [])) a.0), subst (λ t. AsksOn t y) a.1 (record { job = refl; found = same (h ∷ []); streams = inl record { tried = refl; peer = inr refl; given = same given; got = (more, refl) } }));
-      ended = same [];
+          (y, inl (ap (λ n. asked_at n (Some y ∷ [])) a.0), subst (λ t. AsksOn t y) a.1 (record { job = refl; found = prefix-refl (h ∷ []); streams = inl record { tried = refl; peer = inr refl; given = prefix-refl given; got = (more, refl) } }));
+      ended = prefix-refl [];
     }
 
 pub returns-clause-another : goal.returns-clause-another
@@ -23,9 +24,9 @@ returns-clause-another c h v j got =
           let a = alone i (asking j) x is in (
             y,
             inl (ap (λ n. asked_at n (Some y ∷ [])) a.0),
-            subst (λ t. AsksOn t y) a.1 (record { job = refl; found = (h ∷ [], refl); streams = inr record { last = stream_value h [] [] false; others = []; tried_are = refl; peer = inl refl; given = same []; got = same [] } }),
+            subst (λ t. AsksOn t y) a.1 (record { job = refl; found = (h ∷ [], refl); streams = inr record { last = stream_value h [] [] false; others = []; tried_are = refl; peer = inl refl; given = prefix-refl []; got = prefix-refl [] } }),
           );
-      ended = same [];
+      ended = prefix-refl [];
     }
 
 pub returns-clause-over : goal.returns-clause-over
@@ -36,7 +37,7 @@ returns-clause-over c h v j given got more o =
           let a = alone i (asked h j [] given got) x is in (
             y,
             inr record { before = []; outcome = o; after = []; ended_are = refl },
-            subst (λ t. AsksOn t y) a.1 (record { job = refl; found = same (h ∷ []); streams = inl record { tried = refl; peer = inr refl; given = (more, refl); got = same got } }),
+            subst (λ t. AsksOn t y) a.1 (record { job = refl; found = prefix-refl (h ∷ []); streams = inl record { tried = refl; peer = inr refl; given = (more, refl); got = prefix-refl got } }),
           );
       ended = (ended h j [] (given ++ more) got o ∷ [], refl);
     }

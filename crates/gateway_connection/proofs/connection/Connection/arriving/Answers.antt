@@ -3,6 +3,7 @@ use Rattle.std.specs.Prelude.{IfOk}
 use Rattle.connect_codec.specs.Verdict.{verdict_of}
 use Rattle.gateway_theory.specs.lemmas.EventLemmas.{no_call, timely}
 use Rattle.gateway_connection.proofs.EnterLemmas.{asks_is, fails_same}
+use Rattle.gateway_connection.proofs.ResultLemmas.{none_ok}
 use Rattle.gateway_connection.proofs.connection.Connection.arriving.Goals as goal
 
 pub new-requires-clause-timely : goal.new-requires-clause-timely
@@ -31,3 +32,21 @@ returns-in_ok-asked-in-Some-clause-ok g c =
     ∙ sym (ap (λ a. arriving_in c.args.shared.now.moment c.args.shared.now.contexts.standing.drained (Request c.args.request a) c.args.self.now)
     (asks_is c.args.shared.now.plans c.args.request (arc_value c.in-Some.plan.now) c.in-Ask.timeout c.in-Ask.request_id found asks)))
     c.asking.ensures.ok
+
+pub returns-in_err-verdict-clause-ok : goal.returns-in_err-verdict-clause-ok
+returns-in_err-verdict-clause-ok g c = none_ok _ _ c.from_residual.result c.from_residual.ensures.1
+
+pub returns-in_err-asked-in-Some-clause-ok : goal.returns-in_err-asked-in-Some-clause-ok
+returns-in_err-asked-in-Some-clause-ok g c = none_ok _ _ c.from_residual-in_err-asked-in-Some.result c.from_residual-in_err-asked-in-Some.ensures.1
+
+pub returns-in_err-reply-in_default-clause-ok : goal.returns-in_err-reply-in_default-clause-ok
+returns-in_err-reply-in_default-clause-ok g c = none_ok _ _ c.from_residual-in_err-reply-in_default.result c.from_residual-in_err-reply-in_default.ensures.1
+
+pub returns-in_ok-asked-in-Some-clause-err : goal.returns-in_ok-asked-in-Some-clause-err
+returns-in_ok-asked-in-Some-clause-err g c = c.asking.ensures.err
+
+pub new-requires-clause-start : goal.new-requires-clause-start
+new-requires-clause-start g c = c.requires.may.early
+
+pub asking-requires : goal.asking-requires
+asking-requires g c = c.requires

@@ -1,5 +1,8 @@
-use Rattle.gateway_connection.specs.lemmas.Names.{◌≡◌, ◌∙◌, ◌++◌, ◌∷◌, [], None, Some, ap, append-nil, false, refl, sym, subst, Call as Calling, CallId, record_of, ContextsValue, KeepsOthers, by_drain, contexts_value, ends_of, is_life, is_peer, without, TakesAtMostOne, stock_in, begun_live, ends_first, first_out, is_full, ReplyValue, step_to, gone, err_if, next_held, event_for, life_in, none_over, LeavesOthers}
+use Rattle.gateway_connection.specs.lemmas.Names.{◌≡◌, ◌∙◌, ◌++◌, ◌∷◌, [], None, Some, ap, append-nil, false, refl, sym, subst, Call as Calling, CallId, record_of, ContextsValue, KeepsOthers, by_drain, contexts_value, ends_of, is_life, is_peer, without, TakesAtMostOne, stock_in, begun_live, ends_first, first_out, is_full, ReplyValue, step_to, gone, err_if, next_held, event_for, life_in, none_over, LeavesOthers, inl, ArrivedCall, asking}
+use Rattle.gateway_model.specs.declared.entry.ReplyEntry.TheVariants.{Crowded}
+use Rattle.http_pieces.specs.Request.{closes}
 use Rattle.gateway_connection.proofs.EnterLemmas.{asking_first, begun_gone, begun_is, begun_on, begun_others, first_event, fails_same, first_linked, keeps_then, may_ends, may_fresh, may_known, may_stocked, stays_same, taken_leaves, takes_then}
+use Rattle.gateway_connection.proofs.ResultLemmas.{none_ok}
 use Rattle.gateway_connection.proofs.connection.Connection.asking.Goals as goal
 
 pub begin-requires-clause-known : goal.begin-requires-clause-known
@@ -107,5 +110,37 @@ returns-in_ok-start_first-in-None-clause-ok g c =
           ∙ ap (λ d. contexts_value v.drained v.conns (v.calls ++ life_in none_over d (first_out c.args.asked) (begun_live c.args.shared.now.moment d c.args.asked) ∷ [])) c.next_id-id.ensures;
       hooks = subst (λ n. TakesAtMostOne n c.args.shared.now.contexts c.start_first.new.contexts) (ap (λ (d : CallId). d.conn) c.next_id-id.ensures)
           (takes_then c.next_id-id.result.conn c.args.shared.now.contexts c.begin.new.self c.start_first.new.contexts c.begin.ensures.takes (stays_same c.begin.new.self c.start_first.new.contexts c.start_first.ensures.stocks));
+      rest = refl;
+    }
+
+pub returns-in_err-reply-clause-ok : goal.returns-in_err-reply-clause-ok
+returns-in_err-reply-clause-ok g c = none_ok _ _ c.from_residual.result c.from_residual.ensures.1
+
+pub returns-in_err-begin-clause-ok : goal.returns-in_err-begin-clause-ok
+returns-in_err-begin-clause-ok g c = none_ok _ _ c.from_residual-in_err-begin.result c.from_residual-in_err-begin.ensures.1
+
+pub returns-in_err-call-in-Some-clause-ok : goal.returns-in_err-call-in-Some-clause-ok
+returns-in_err-call-in-Some-clause-ok g c = none_ok _ _ c.from_residual-in_err-call-in-Some.result c.from_residual-in_err-call-in-Some.ensures.1
+
+pub returns-in_err-reply-in-Some-clause-ok : goal.returns-in_err-reply-in-Some-clause-ok
+returns-in_err-reply-in-Some-clause-ok g c = none_ok _ _ c.from_residual-in_err-reply-in-Some.result c.from_residual-in_err-reply-in-Some.ensures.1
+
+pub returns-in_err-start_first-in-None-clause-ok : goal.returns-in_err-start_first-in-None-clause-ok
+returns-in_err-start_first-in-None-clause-ok g c = none_ok _ _ c.from_residual-in_err-start_first-in-None.result c.from_residual-in_err-start_first-in-None.ensures.1
+
+pub start_first-requires-clause-moment : goal.start_first-requires-clause-moment
+start_first-requires-clause-moment g c = c.requires.may.early
+
+pub returns-then-is_full-clause-ok : goal.returns-then-is_full-clause-ok
+returns-then-is_full-clause-ok g c =
+    let entry = ap (λ (r : ReplyValue). r.entry) c.in_ok-reply.ensures ∙ ap Crowded (c.closes.ensures ∙ ap (λ (a : ArrivedCall). closes a.request) c.asked.view_is) in
+    record {
+      comes = (
+        ap (λ (r : ReplyValue). r.id) c.in_ok-reply.ensures ∙ c.next_id-id.ensures,
+        ap (λ b. asking b c.args.shared.now.moment c.args.shared.now.contexts.standing.drained (next_held c.args.self.now) c.args.asked) (sym c.is_full.ensures ∙ c.if-is_full.true)
+            ∙ sym (ap (λ e. step_to gone (Some e) []) entry),
+      );
+      contexts = refl;
+      hooks = λ other stock there. inl there;
       rest = refl;
     }

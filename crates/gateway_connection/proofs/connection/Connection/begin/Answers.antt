@@ -1,7 +1,8 @@
-use Rattle.gateway_connection.specs.lemmas.Names.{◌≡◌, ◌∙◌, ◌++◌, ◌∷◌, [], None, ap, arith, err_if, map, refl, sym, subst, map-append, sum_by_push, AreInPlace, entry_in, KeptValue, HeldConnection, held_connection, waiting, waiting_in, job_at, Holds, next_held, held_by, JobsValue, IsBegun}
+use Rattle.gateway_connection.specs.lemmas.Names.{◌≡◌, ◌∙◌, ◌++◌, ◌∷◌, [], None, ap, arith, err_if, map, refl, sym, subst, map-append, sum_by_push, AreInPlace, entry_in, KeptValue, HeldConnection, held_connection, waiting, waiting_in, job_at, Holds, next_held, held_by, JobsValue, IsBegun, true}
 use Rattle.gateway_connection.proofs.EnterLemmas.{begun_held, first_queued}
 use Rattle.gateway_connection.proofs.HoldsLemmas.{holds_begun}
 use Rattle.gateway_connection.proofs.SlotLemmas.{more_place}
+use Rattle.gateway_connection.proofs.ResultLemmas.{by_memory, none_on}
 use Rattle.gateway_connection.proofs.connection.Connection.begin.Goals as goal
 
 pub invariant_of-self : goal.invariant_of-self
@@ -105,3 +106,51 @@ returns-in_err-reserve-3-clause-err g c =
     err_if c.from_residual-in_err-reserve-3.result
     (ap (λ xs. held_by c.self.inside.number c.self.inside.taken xs c.reserve.new.self.items c.self.inside.broken c.self.inside.closed c.self.inside.hung_up c.self.inside.reader) c.reserve-2.ensures.items
     ∙ ap (λ ks. held_by c.self.inside.number c.self.inside.taken c.self.inside.slots.items ks c.self.inside.broken c.self.inside.closed c.self.inside.hung_up c.self.inside.reader) c.reserve.ensures.items ∙ c.self.view_is)
+
+pub returns-in_err-reserve-clause-ok : goal.returns-in_err-reserve-clause-ok
+returns-in_err-reserve-clause-ok g c = none_on _ _ c.from_residual.result c.from_residual.ensures.1
+
+pub returns-in_err-reserve-clause-same : goal.returns-in_err-reserve-clause-same
+returns-in_err-reserve-clause-same g c = err_if c.from_residual.result refl
+
+pub returns-in_err-reserve-clause-fault : goal.returns-in_err-reserve-clause-fault
+returns-in_err-reserve-clause-fault g c = by_memory c.args.shared.now.begun true c.from_residual.result c.from_residual.ensures.1
+
+pub returns-in_err-reserve-2-clause-ok : goal.returns-in_err-reserve-2-clause-ok
+returns-in_err-reserve-2-clause-ok g c = none_on _ _ c.from_residual-in_err-reserve-2.result c.from_residual-in_err-reserve-2.ensures.1
+
+pub returns-in_err-reserve-2-clause-same : goal.returns-in_err-reserve-2-clause-same
+returns-in_err-reserve-2-clause-same g c = err_if c.from_residual-in_err-reserve-2.result refl
+
+pub returns-in_err-reserve-2-clause-fault : goal.returns-in_err-reserve-2-clause-fault
+returns-in_err-reserve-2-clause-fault g c = by_memory c.args.shared.now.begun true c.from_residual-in_err-reserve-2.result c.from_residual-in_err-reserve-2.ensures.1
+
+pub returns-in_err-begun-clause-ok : goal.returns-in_err-begun-clause-ok
+returns-in_err-begun-clause-ok g c = none_on _ _ c.from_residual-in_err-begun.result c.from_residual-in_err-begun.ensures.1
+
+pub returns-in_err-begun-clause-same : goal.returns-in_err-begun-clause-same
+returns-in_err-begun-clause-same g c = err_if c.from_residual-in_err-begun.result refl
+
+pub returns-in_err-begun-clause-fault : goal.returns-in_err-begun-clause-fault
+returns-in_err-begun-clause-fault g c = by_memory c.args.shared.now.begun true c.from_residual-in_err-begun.result c.from_residual-in_err-begun.ensures.1
+
+pub returns-in_err-reserve-3-clause-ok : goal.returns-in_err-reserve-3-clause-ok
+returns-in_err-reserve-3-clause-ok g c = none_on _ _ c.from_residual-in_err-reserve-3.result c.from_residual-in_err-reserve-3.ensures.1
+
+pub returns-in_err-reserve-3-clause-same : goal.returns-in_err-reserve-3-clause-same
+returns-in_err-reserve-3-clause-same g c = err_if c.from_residual-in_err-reserve-3.result (ap (λ (q : JobsValue). record c.args.shared.now { jobs = q }) c.in_err-reserve-3.ensures.err)
+
+pub returns-in_err-reserve-3-clause-fault : goal.returns-in_err-reserve-3-clause-fault
+returns-in_err-reserve-3-clause-fault g c = by_memory c.args.shared.now.begun true c.from_residual-in_err-reserve-3.result c.from_residual-in_err-reserve-3.ensures.1
+
+pub start_all-requires-clause-moment : goal.start_all-requires-clause-moment
+start_all-requires-clause-moment g c = c.requires.moment
+
+pub start_all-requires-clause-room : goal.start_all-requires-clause-room
+start_all-requires-clause-room g c = omega (arith, ap (λ (q : JobsValue). q.waiting) c.in_ok-reserve-3.ensures.ok, c.len.ensures)
+
+pub push_reserved-requires : goal.push_reserved-requires
+push_reserved-requires g c = omega (arith, c.in_ok-reserve.ensures.ok)
+
+pub push_back_reserved-requires : goal.push_back_reserved-requires
+push_back_reserved-requires g c = omega (arith, c.in_ok-reserve-2.ensures.ok)

@@ -1,4 +1,4 @@
-use Rattle.gateway_connection.specs.lemmas.Names.{◌≡◌, ◌∙◌, ap, arith, is_none, map, sym, true, HeldConnection, entry_in, length, length-map, none_of, ◌-◌}
+use Rattle.gateway_connection.specs.lemmas.Names.{◌≡◌, ◌∙◌, ap, arith, is_none, sym, true, HeldConnection, entry_in, length, length-map, none_of, ◌-◌}
 use Rattle.gateway_theory.specs.Conn.{slot_at}
 use Rattle.gateway_connection.proofs.SlotLemmas.{empty_seen}
 use Rattle.gateway_connection.proofs.connection.Connection.empty_slot.Goals as goal

@@ -25,3 +25,7 @@ returns c =
     let none : is_none (slot_at c.in-Some.index (map entry_in c.self.inside.slots.items)) ≡ true = ap (λ (k : HeldConnection). is_none (slot_at c.in-Some.index k.slots)) c.self.view_is ∙ c.in-Some.ensures.2 in
     fill_view c.self.inside.number c.self.inside.taken c.self.inside.calls.items c.self.inside.broken c.self.inside.closed c.self.inside.hung_up c.self.inside.reader c.self.inside.slots.items c.args.reply.id.request c.in-Some.index c.args.reply at none
     ∙ ap (replied c.args.reply.id.request (Some c.args.reply.entry)) c.self.view_is
+
+pub returns-in_default : goal.returns-in_default
+returns-in_default c =
+    c.in_default.ensures c.args.reply.entry ∙ ap (λ (i : CallId). replied i.request (Some c.args.reply.entry) c.args.self.now) c.id.ensures

@@ -1,4 +1,5 @@
-use Rattle.gateway_connection.specs.lemmas.Names.{◌∙◌, [], ap, held_by, refl, sym, subst, true, HungUp, told, hung_held, HeldConnection, LeavesRest, MayStep, over_by}
+use Rattle.gateway_connection.specs.lemmas.Names.{◌∙◌, [], ap, is_some, broke, broken_held, ended_held, held_by, refl, sym, subst, true, HungUp, told, hung_held, HeldConnection, LeavesRest, MayStep, over_by}
+use Rattle.gateway_theory.specs.Held.{ended_entry, hung, unnoticed}
 use Rattle.gateway_connection.proofs.HoldsLemmas.{holds_as}
 use Rattle.gateway_connection.proofs.LentLemmas.{rest_none}
 use Rattle.gateway_connection.proofs.StreamLemmas.{hung_may, hung_rest}
@@ -29,3 +30,16 @@ invariant_of-self g c = (
       (held_by c.self.inside.number c.self.inside.taken c.self.inside.slots.items c.self.inside.calls.items c.self.inside.broken c.self.inside.closed true c.self.inside.reader)
       refl refl refl refl refl c.self.invariant.1,
 )
+
+pub returns-then-not-is_listening-clause-hangs : goal.returns-then-not-is_listening-clause-hangs
+returns-then-not-is_listening-clause-hangs g c = unnoticed (sym c.is_listening.ensures ∙ c.if-not-is_listening.true) refl refl
+
+pub returns-then-end_calls-clause-hangs : goal.returns-then-end_calls-clause-hangs
+returns-then-end_calls-clause-hangs g c =
+    let e = c.if-end_calls.ensures.ends.2 in
+    broke (sym c.is_listening.ensures ∙ c.if-not-is_listening.false)
+    (record { request = e.request; ends = ap (λ (k : HeldConnection). is_some (ended_entry (HungUp k.number) k e.request)) (sym c.self.view_is) ∙ e.ends }) refl
+    (c.if-end_calls.ensures.ends.3 ∙ ap (λ (k : HeldConnection). broken_held (hung_held k)) c.self.view_is)
+
+pub returns-clause-hangs : goal.returns-clause-hangs
+returns-clause-hangs g c = hung (sym c.is_listening.ensures ∙ c.if-not-is_listening.false) refl (c.if-end_calls.ensures.ends ∙ ap (λ (k : HeldConnection). ended_held (HungUp k.number) (hung_held k)) c.self.view_is)

@@ -63,3 +63,12 @@ pub returns-clause-begun : goal.returns-clause-begun
 returns-clause-begun g c =
     let s = on_ok c.settle.result _ c.settle.ensures.ok (sym c.is_err.ensures.value ∙ c.if-is_err.false) in
     s.begun_is
+
+pub returns-in_default-clause-tied : goal.returns-in_default-clause-tied
+returns-in_default-clause-tied g c = c.requires.tied
+
+pub returns-then-is_err-clause-tied : goal.returns-then-is_err-clause-tied
+returns-then-is_err-clause-tied g c = c.lose.ensures.tied
+
+pub settle-requires-clause-may : goal.settle-requires-clause-may
+settle-requires-clause-may g c = c.requires

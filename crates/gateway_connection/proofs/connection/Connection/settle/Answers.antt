@@ -1,6 +1,7 @@
 use Rattle.gateway_connection.specs.lemmas.Names.{◌≡◌, ◌<◌, ◌∙◌, Some, None, ap, arith, length, refl, sym, subst, Call as Calling, CallId, KeepsOthers, is_life, without, KeptValue, HeldConnection, ReplyValue, kept_at, no_call, err_if, replied, TakesAt}
 use Rattle.gateway_connection.proofs.HoldsLemmas.{here_is}
 use Rattle.gateway_connection.proofs.TakenLemmas.{decided_fails, decided_known, settles_on, settles_with, taken_id, taken_number, taken_size}
+use Rattle.gateway_connection.proofs.ResultLemmas.{none_on}
 use Rattle.gateway_connection.proofs.connection.Connection.settle.Goals as goal
 
 pub returns-in_default-clause-ok : goal.returns-in_default-clause-ok
@@ -62,3 +63,21 @@ returns-clause-ok g c =
     (c.in_ok-reply.ensures.gone ∙ ap (λ d. without d c.take_at.new.shared.contexts.standing) id_is) c.reply_to.ensures.stocks
     (c.fill.ensures ∙ ap (λ (r : ReplyValue). replied r.id.request (Some r.entry) c.take_at.new.self) c.in_ok-reply.ensures.reply
     ∙ ap (λ (d : CallId). replied d.request (Some (Calling c.in-Some.decided)) c.take_at.new.self) id_is)
+
+pub returns-in_err-reply-clause-ok : goal.returns-in_err-reply-clause-ok
+returns-in_err-reply-clause-ok g c = none_on _ _ c.from_residual-in_err-reply.result c.from_residual-in_err-reply.ensures.1
+
+pub returns-in_err-taken-clause-ok : goal.returns-in_err-taken-clause-ok
+returns-in_err-taken-clause-ok g c = none_on _ _ c.from_residual.result c.from_residual.ensures.1
+
+pub returns-in_err-taken-clause-err : goal.returns-in_err-taken-clause-err
+returns-in_err-taken-clause-err g c = err_if c.from_residual.result c.in_err-taken.ensures.err
+
+pub take_at-requires-clause-may : goal.take_at-requires-clause-may
+take_at-requires-clause-may g c = c.requires.may
+
+pub take_at-requires-clause-out : goal.take_at-requires-clause-out
+take_at-requires-clause-out g c = c.requires.out
+
+pub take_at-requires-clause-there : goal.take_at-requires-clause-there
+take_at-requires-clause-there g c = c.requires.there

@@ -59,3 +59,15 @@ returns-clause-rest g c =
     let was : c.index-call.result.now ≡ kept_at c.in-Some.index c.args.self.now.calls = here_is c.self.inside.calls.items c.args.self.now.calls c.in-Some.index c.index-call.result.now items lt c.index-call.ensures in
     let dead : (kept_at c.in-Some.index c.args.self.now.calls).call.live ≡ None = none_live (kept_at c.in-Some.index c.args.self.now.calls).call.live (ap (λ (x : KeptValue). is_some x.call.live) (sym was) ∙ sym c.is_live.ensures ∙ c.if-is_live.false) in
     rest_conn [] c.args.self.now c.args.self.now c.forget.new.self c.args.shared.now c.args.shared.now (late_waits c.args.self.now c.args.shared.now c.args.request c.in-Some.index c.args.branch c.index-call.result.now c.seen-seen.result was c.in-Some.ensures.0 c.in-Some.ensures.1 c.seen-seen.ensures c.give_back.new.self c.forget.new.self dead c.give_back.ensures c.held_law.ensures.apart c.forget.ensures) (rest_none c.args.self.now c.args.shared.now)
+
+pub lose-requires-clause-waits : goal.lose-requires-clause-waits
+lose-requires-clause-waits g c = c.requires.waits
+
+pub returns-in_default-clause-tied : goal.returns-in_default-clause-tied
+returns-in_default-clause-tied g c = c.requires.tied
+
+pub returns-then-is_live-clause-rest : goal.returns-then-is_live-clause-rest
+returns-then-is_live-clause-rest g c = c.lose.ensures.rest
+
+pub returns-then-is_live-clause-tied : goal.returns-then-is_live-clause-tied
+returns-then-is_live-clause-tied g c = c.lose.ensures.tied

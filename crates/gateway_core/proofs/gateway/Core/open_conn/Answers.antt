@@ -3,6 +3,7 @@ use Rattle.gateway_core.proofs.StepLemmas.{same_whole}
 use Rattle.gateway_core.proofs.OpenLemmas.{no_peer, opens_step, opens_whole, unborn}
 use Rattle.gateway_theory.specs.declared.fault.OpenError.{OpenError}
 use Rattle.gateway_theory.specs.declared.fault.OpenError.TheVariants.{Full, Exhausted, Memory}
+use Rattle.gateway_theory.specs.Refused.{RefusesOpening}
 use Rattle.gateway_core.proofs.MapLemmas.{restored}
 use Rattle.gateway_core.proofs.gateway.Core.open_conn.Goals as goal
 
@@ -71,3 +72,15 @@ returns-clause-few g c = subst (λ y. OpensFew {E = List g.row.H.Denot × OpenEr
 
 pub returns-clause-keeps : goal.returns-clause-keeps
 returns-clause-keeps g c = subst (λ y. Keeps (λ d. false) y (gateway_of (record c.self.inside.shared { contexts = c.open.new.self }) c.insert.new.self.entries (c.self.inside.opened + 1) c.self.inside.tally)) c.self.view_is (opens_keeps (gateway_of c.self.inside.shared c.self.inside.conns.entries c.self.inside.opened c.self.inside.tally) (gateway_of (record c.self.inside.shared { contexts = c.open.new.self }) c.insert.new.self.entries (c.self.inside.opened + 1) c.self.inside.tally) c.self.inside.opened (opens_step c.self.invariant c.insert.new.self.entries c.new-conn.result c.new-conn.ensures c.in-Ok.ensures.entries c.in-Ok.ensures.updates.0 c.insert.ensures.ordered c.open.new.self (omega (arith, c.if-self-ge-MOST_OPEN.false)) c.in_default-open.ensures.ok) c.self.invariant.serving)
+
+pub returns-then-self-ge-MOST_OPEN-clause-refused : goal.returns-then-self-ge-MOST_OPEN-clause-refused
+returns-then-self-ge-MOST_OPEN-clause-refused g c = subst (RefusesOpening Full) c.self.view_is (omega (arith, c.if-self-ge-MOST_OPEN.true, c.self.invariant.open_is))
+
+pub returns-then-self-ge-MOST_OPENINGS-clause-refused : goal.returns-then-self-ge-MOST_OPENINGS-clause-refused
+returns-then-self-ge-MOST_OPENINGS-clause-refused g c = subst (RefusesOpening Exhausted) c.self.view_is (omega (arith, c.if-self-ge-MOST_OPEN.false, c.self.invariant.open_is), omega (arith, c.if-self-ge-MOST_OPENINGS.true))
+
+pub returns-in_default-clause-refused : goal.returns-in_default-clause-refused
+returns-in_default-clause-refused g c = subst (RefusesOpening Memory) c.self.view_is (omega (arith, c.if-self-ge-MOST_OPEN.false, c.self.invariant.open_is), omega (arith, c.if-self-ge-MOST_OPENINGS.false))
+
+pub returns-in-Err-clause-refused : goal.returns-in-Err-clause-refused
+returns-in-Err-clause-refused g c = subst (RefusesOpening Memory) c.self.view_is (omega (arith, c.if-self-ge-MOST_OPEN.false, c.self.invariant.open_is), omega (arith, c.if-self-ge-MOST_OPENINGS.false))

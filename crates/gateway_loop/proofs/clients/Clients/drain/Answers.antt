@@ -1,5 +1,5 @@
-use Rattle.gateway_loop.proofs.Words.{refl}
-use Rattle.gateway_loop.proofs.GrowLemmas.{begins_same, continues_all, onward}
+use Rattle.gateway_loop.proofs.Words.{refl, prefix-refl}
+use Rattle.gateway_loop.proofs.GrowLemmas.{continues_all, onward}
 use Rattle.gateway_loop.proofs.ServingLemmas.{serving_drain}
 use Rattle.gateway_loop.proofs.clients.Clients.drain.Goals as goal
 
@@ -10,4 +10,4 @@ invariant_of-self g c u =
 
 pub returns-clause-goes : goal.returns-clause-goes
 returns-clause-goes g c =
-    rw (← c.self.view_is) (onward _ _ (continues_all _ _ c.drain-broke.ensures.keeps.plans_are refl refl refl (begins_same _) (begins_same _) (begins_same _)))
+    rw (← c.self.view_is) (onward _ _ (continues_all _ _ c.drain-broke.ensures.keeps.plans_are refl refl refl (prefix-refl _) (prefix-refl _) (prefix-refl _)))

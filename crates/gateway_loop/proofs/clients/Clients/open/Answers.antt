@@ -1,5 +1,5 @@
-use Rattle.gateway_loop.proofs.Words.{◌≡◌, List, Option, Some, ap, refl, sym, subst, ◌∙◌, Slab, ClientValue, at}
-use Rattle.gateway_loop.proofs.GrowLemmas.{begins_same, continues_all, continues_come, onward}
+use Rattle.gateway_loop.proofs.Words.{◌≡◌, List, Option, Some, ap, refl, sym, subst, ◌∙◌, Slab, ClientValue, at, prefix-refl}
+use Rattle.gateway_loop.proofs.GrowLemmas.{continues_all, continues_come, onward}
 use Rattle.gateway_loop.proofs.Places.{Put, put_one}
 use Rattle.gateway_loop.proofs.ServingLemmas.{serving_comes}
 use Rattle.gateway_loop.proofs.clients.Clients.open.Goals as goal
@@ -31,9 +31,9 @@ returns-clause-goes g c =
 pub returns-then-is_err-clause-goes : goal.returns-then-is_err-clause-goes
 returns-then-is_err-clause-goes g c =
     let slots : c.reserve.new.self.slots ≡ c.self.inside.clients.slots = ap (λ (s : Slab ClientValue). s.slots) c.reserve.ensures.rest_kept in
-    rw (← c.self.view_is) (onward _ _ (continues_all _ _ refl slots refl refl (begins_same _) (begins_same _) (begins_same _)))
+    rw (← c.self.view_is) (onward _ _ (continues_all _ _ refl slots refl refl (prefix-refl _) (prefix-refl _) (prefix-refl _)))
 
 pub returns-in_default-clause-goes : goal.returns-in_default-clause-goes
 returns-in_default-clause-goes g c =
     let slots : c.reserve.new.self.slots ≡ c.self.inside.clients.slots = ap (λ (s : Slab ClientValue). s.slots) c.reserve.ensures.rest_kept in
-    rw (← c.self.view_is) (onward _ _ (continues_all _ _ c.open_conn.ensures.keeps.plans_are slots refl refl (begins_same _) (begins_same _) (begins_same _)))
+    rw (← c.self.view_is) (onward _ _ (continues_all _ _ c.open_conn.ensures.keeps.plans_are slots refl refl (prefix-refl _) (prefix-refl _) (prefix-refl _)))

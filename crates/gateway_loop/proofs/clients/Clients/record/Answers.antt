@@ -1,5 +1,5 @@
-use Rattle.gateway_loop.proofs.Words.{Option, ap, refl, sym, unwrap_or, Outcome}
-use Rattle.gateway_loop.proofs.GrowLemmas.{begins_by, begins_same, continues_all, noted_result, onward}
+use Rattle.gateway_loop.proofs.Words.{Option, ap, refl, sym, unwrap_or, Outcome, prefix-refl}
+use Rattle.gateway_loop.proofs.GrowLemmas.{begins_by, continues_all, noted_result, onward}
 use Rattle.gateway_loop.proofs.ServingLemmas.{serving_result}
 use Rattle.gateway_loop.proofs.clients.Clients.record.Goals as goal
 
@@ -21,10 +21,10 @@ pub returns-in-Some-clause-goes : goal.returns-in-Some-clause-goes
 returns-in-Some-clause-goes g c =
     let i = c.self.inside in
     rw (← c.self.view_is)
-    (onward _ _ (continues_all _ _ c.result-took.ensures.keeps.plans_are refl refl refl (begins_same _) (begins_by _ _ _ (noted_result i.results.items c.and-self-inside.result.items _ _ c.and-self-inside.ensures)) (begins_same _)))
+    (onward _ _ (continues_all _ _ c.result-took.ensures.keeps.plans_are refl refl refl (prefix-refl _) (begins_by _ _ _ (noted_result i.results.items c.and-self-inside.result.items _ _ c.and-self-inside.ensures)) (prefix-refl _)))
 
 pub returns-in-None-clause-goes : goal.returns-in-None-clause-goes
 returns-in-None-clause-goes g c =
     let i = c.self.inside in
     rw (← c.self.view_is)
-    (onward _ _ (continues_all _ _ c.starved-took.ensures.keeps.plans_are refl refl refl (begins_same _) (begins_by _ _ _ (noted_result i.results.items c.and-self-inside.result.items _ _ c.and-self-inside.ensures)) (begins_same _)))
+    (onward _ _ (continues_all _ _ c.starved-took.ensures.keeps.plans_are refl refl refl (prefix-refl _) (begins_by _ _ _ (noted_result i.results.items c.and-self-inside.result.items _ _ c.and-self-inside.ensures)) (prefix-refl _)))

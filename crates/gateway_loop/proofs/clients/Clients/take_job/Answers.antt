@@ -1,5 +1,5 @@
-use Rattle.gateway_loop.proofs.Words.{[], ◌∷◌, ap, append-nil, refl, sym, GatewayValue}
-use Rattle.gateway_loop.proofs.GrowLemmas.{begins_by, begins_same, continues_all, noted_job, onward}
+use Rattle.gateway_loop.proofs.Words.{[], ◌∷◌, ap, append-nil, refl, sym, GatewayValue, prefix-refl}
+use Rattle.gateway_loop.proofs.GrowLemmas.{begins_by, continues_all, noted_job, onward}
 use Rattle.gateway_loop.proofs.ServingLemmas.{serving_jobs}
 use Rattle.gateway_loop.proofs.clients.Clients.take_job.Goals as goal
 
@@ -18,10 +18,10 @@ pub returns-in-Some-clause-goes : goal.returns-in-Some-clause-goes
 returns-in-Some-clause-goes g c =
     let i = c.self.inside in
     rw (← c.self.view_is)
-    (onward _ _ (continues_all _ _ (ap (λ (v : GatewayValue). v.plans) c.take_job.ensures.rest) refl refl refl (begins_same _) (begins_same _)
+    (onward _ _ (continues_all _ _ (ap (λ (v : GatewayValue). v.plans) c.take_job.ensures.rest) refl refl refl (prefix-refl _) (prefix-refl _)
     (begins_by _ _ _ (noted_job i.handed.items c.and-self-inside.result.items _ _ c.and-self-inside.ensures))))
 
 pub returns-in-None-clause-goes : goal.returns-in-None-clause-goes
 returns-in-None-clause-goes g c =
     rw (← c.self.view_is)
-    (onward _ _ (continues_all _ _ (ap (λ (v : GatewayValue). v.plans) c.take_job.ensures.rest) refl refl refl (begins_same _) (begins_same _) (begins_same _)))
+    (onward _ _ (continues_all _ _ (ap (λ (v : GatewayValue). v.plans) c.take_job.ensures.rest) refl refl refl (prefix-refl _) (prefix-refl _) (prefix-refl _)))

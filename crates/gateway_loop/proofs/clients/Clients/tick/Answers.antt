@@ -1,5 +1,5 @@
-use Rattle.gateway_loop.proofs.Words.{[], ◌∷◌, refl}
-use Rattle.gateway_loop.proofs.GrowLemmas.{begins_by, begins_same, continues_all, noted, onward, tells_one, ticks_by}
+use Rattle.gateway_loop.proofs.Words.{[], ◌∷◌, refl, prefix-refl}
+use Rattle.gateway_loop.proofs.GrowLemmas.{begins_by, continues_all, noted, onward, tells_one, ticks_by}
 use Rattle.gateway_loop.proofs.ServingLemmas.{serving_moment, serving_told}
 use Rattle.gateway_loop.proofs.clients.Clients.tick.Goals as goal
 
@@ -20,14 +20,14 @@ pub returns-then-not-is_due-clause-goes : goal.returns-then-not-is_due-clause-go
 returns-then-not-is_due-clause-goes g c =
     let i = c.self.inside in
     rw (← c.self.view_is)
-    (onward _ _ (continues_all _ _ refl refl refl refl (begins_by _ _ (c.moment-moment.result ∷ []) (noted i.told.items c.and-self-inside.result.items _ _ c.and-self-inside.ensures)) (begins_same _) (begins_same _)))
+    (onward _ _ (continues_all _ _ refl refl refl refl (begins_by _ _ (c.moment-moment.result ∷ []) (noted i.told.items c.and-self-inside.result.items _ _ c.and-self-inside.ensures)) (prefix-refl _) (prefix-refl _)))
 
 pub returns-clause-goes : goal.returns-clause-goes
 returns-clause-goes g c =
     let i = c.self.inside in
     rw (← c.self.view_is)
     (onward _ _ (continues_all _ _ c.moment-broke.ensures.keeps.plans_are refl refl refl (begins_by _ _ (c.moment-moment.result ∷ []) (noted i.told.items c.and-self-inside.result.items _ _ c.and-self-inside.ensures))
-    (begins_same _) (begins_same _)))
+    (prefix-refl _) (prefix-refl _)))
 
 pub returns-then-not-is_due-clause-told : goal.returns-then-not-is_due-clause-told
 returns-then-not-is_due-clause-told g c =

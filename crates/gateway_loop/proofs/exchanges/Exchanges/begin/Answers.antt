@@ -9,7 +9,7 @@ invariant_of-self-2 g c =
     let put = c.insert_reserved in
     let slots : c.reserve.new.self.slots ≡ i.asking.slots = ap (λ (s : Slab AskingState). s.slots) c.reserve.ensures.rest_kept in
     takes_job i.clients c.take_job.new.self i.asking.slots put.new.self.slots i.ended.items put.result c.new-asking.result c.in-Some.job.job
-    c.in-Some.ensures.results c.in-Some.ensures.handed (ap (λ (j : HandedJob). j.job) c.new-asking.ensures)
+    c.in-Some.ensures.results c.in-Some.ensures.handed (ap (λ (j : HandedJob). j.job) c.new-asking.ensures.job)
     (sym (ap (λ (old : List (Option AskingState)). slice_index_or old put.result None) slots) ∙ put.ensures.was_vacant)
     (subst (λ (old : List (Option AskingState)). Put old put.new.self.slots put.result (Some c.new-asking.result)) slots (put_one c.reserve.new.self put.new.self put.result _ put.ensures.updates))
     c.begun_law.ensures c.self.invariant
