@@ -1,8 +1,9 @@
 ghost use Rattle.backend_pool.specs.Work.{ReadsReply, SendsOn};
 ghost use Rattle.branch_exchange.specs.declared.asked.Asked.{Asked};
+ghost use Rattle.http_pieces.specs.ReplyReader.{HasReadReply};
 ghost use Rattle.http_pieces.specs.declared.reply.HttpReply.{HttpReply};
 ghost use Rattle.std.specs.Io.KnownBytes.{Appends};
-ghost use Rattle.std.specs.Prelude.{◌≡◌, [], true};
+ghost use Rattle.std.specs.Prelude.{◌≡◌, [], None, true};
 
 use crate::working::Backend;
 use branch_exchange::{Asked, Exchange, MOST_READS};
@@ -218,6 +219,15 @@ pub fn exchange<R: Read, W: Write>(
     if !send(writer, &mut exchange) {
         return Asked::Lost;
     }
+    receive(reader, &mut exchange)
+}
+
+/// Reads until the reply is whole, or the exchange ends without one.
+fn receive<R: Read>(reader: &mut R, exchange: &mut Exchange) -> Asked
+    requires { HasReadReply exchange.old.replies [] None }
+    ensures { (reply : HttpReply) → result ≡ Asked.Reply reply
+        → ReadsReply (R.remaining reader.old) (R.remaining reader.new) reply }
+{
     let mut piece = [0u8; PIECE];
     for _read in 0..MOST_READS {
         match reader.read(&mut piece) {

@@ -13,7 +13,7 @@ use crate::attempt::{Attempt, Step};
 use crate::backend::Backend;
 use crate::edges::Edges;
 use crate::network::Network;
-use branch_causes::{Cause, status_of_end};
+use branch_causes::{Cause, cause_of_end, status_of_end};
 use branch_exchange::{ExchangeEnd, Loss, outcome_of};
 use connect_codec::{BranchAsk, Outcome, branch_request};
 use gateway_core::Job;
@@ -104,7 +104,7 @@ impl<W: Wire> Asking<W> {
         ensures { result ≡ option_map_or cause_of_end self.now.end NotWanted }
     {
         match &self.end {
-            Some(end) => Cause::of_end(end),
+            Some(end) => cause_of_end(end),
             None => Cause::NotWanted,
         }
     }
@@ -144,6 +144,7 @@ impl<W: Wire> Asking<W> {
     /// Whether its job's address is no name. It is to be tried then.
     pub fn has_address(&mut self) -> bool
         ensures job { self.new.job ≡ self.old.job }
+        ensures end { self.new.end ≡ self.old.end }
         ensures on { AsksOn (asked_for self.old) (asked_for self.new) }
         ensures parsed { HasParsed self.old.job.job.address result self.old.addresses self.new.addresses }
     {
@@ -153,6 +154,7 @@ impl<W: Wire> Asking<W> {
     /// These addresses were found for the name. They are to be tried, if it is that of its job.
     pub fn find(&mut self, name: &str, found: VecDeque<SocketAddr>)
         ensures job { self.new.job ≡ self.old.job }
+        ensures end { self.new.end ≡ self.old.end }
         ensures on { AsksOn (asked_for self.old) (asked_for self.new) }
         ensures found { Finds name.now found.items self.old self.new }
     {

@@ -57,19 +57,7 @@ pub enum Cause {
 }
 
 impl Cause {
-    /// What an exchange came to. A reply of status 200 may yet be no answer: `settled` tells.
-    pub fn of_end(end: &ExchangeEnd) -> Cause
-        ensures { result ≡ cause_of_end end.now }
-    {
-        match end {
-            ExchangeEnd::Reply(reply) if reply.status == StatusCode::OK => Cause::Answer,
-            ExchangeEnd::Reply(_) => Cause::Status,
-            ExchangeEnd::Lost(loss) => Cause::of_loss(*loss),
-            ExchangeEnd::NoMemory => Cause::NoMemory,
-        }
-    }
-
-    /// The same, by the outcome that was recorded of it; None for want of memory.
+    /// The cause, by the outcome that was recorded of such an exchange; None for want of memory.
     pub fn settled(self, outcome: &Option<Outcome>) -> Cause
         ensures { result ≡ settled self outcome.now }
     {
@@ -77,23 +65,6 @@ impl Cause {
             None => Cause::NoMemory,
             Some(Outcome::Fail(error)) if self == Cause::Answer => cause_of_failure(error),
             Some(_) => self,
-        }
-    }
-
-    /// Why no reply came.
-    pub fn of_loss(loss: Loss) -> Cause
-        ensures { result ≡ cause_of_loss loss }
-    {
-        match loss {
-            Loss::NotWanted => Cause::NotWanted,
-            Loss::Deadline => Cause::Deadline,
-            Loss::NoAddress => Cause::NoSuchName,
-            Loss::NotWatched => Cause::NoDescriptor,
-            Loss::Write(kind) | Loss::Read(kind) => cause_of_kind(kind),
-            Loss::End => Cause::ClosedEarly,
-            Loss::Refused(fault) => cause_of_fault(fault),
-            Loss::Early => Cause::BeforeRequest,
-            Loss::Reads => Cause::TooManyPieces,
         }
     }
 
@@ -127,6 +98,18 @@ impl Cause {
     }
 }
 
+/// What an exchange came to. A reply of status 200 may yet be no answer: `Cause::settled` tells.
+pub fn cause_of_end(end: &ExchangeEnd) -> Cause
+    ensures { result ≡ cause_of_end end.now }
+{
+    match end {
+        ExchangeEnd::Reply(reply) if reply.status == StatusCode::OK => Cause::Answer,
+        ExchangeEnd::Reply(_) => Cause::Status,
+        ExchangeEnd::Lost(loss) => cause_of_loss(*loss),
+        ExchangeEnd::NoMemory => Cause::NoMemory,
+    }
+}
+
 /// The status of the reply that an exchange came to.
 pub fn status_of_end(end: &ExchangeEnd) -> Option<u16>
     ensures { result ≡ status_of_end end.now }
@@ -134,6 +117,23 @@ pub fn status_of_end(end: &ExchangeEnd) -> Option<u16>
     match end {
         ExchangeEnd::Reply(reply) => Some(reply.status.as_u16()),
         _ => None,
+    }
+}
+
+/// Why no reply came.
+fn cause_of_loss(loss: Loss) -> Cause
+    ensures { result ≡ cause_of_loss loss }
+{
+    match loss {
+        Loss::NotWanted => Cause::NotWanted,
+        Loss::Deadline => Cause::Deadline,
+        Loss::NoAddress => Cause::NoSuchName,
+        Loss::NotWatched => Cause::NoDescriptor,
+        Loss::Write(kind) | Loss::Read(kind) => cause_of_kind(kind),
+        Loss::End => Cause::ClosedEarly,
+        Loss::Refused(fault) => cause_of_fault(fault),
+        Loss::Early => Cause::BeforeRequest,
+        Loss::Reads => Cause::TooManyPieces,
     }
 }
 

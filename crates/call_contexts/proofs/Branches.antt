@@ -1,5 +1,5 @@
 -- The branches of one call, as they are kept and as they are seen.
-use Rattle.call_contexts.proofs.Names.{without, ◌≡◌, refl, sym, ap, ◌∙◌, ℕ, zero, suc, ◌<◌, List, [], ◌∷◌, ◌++◌, take, drop, Some, Bool, true, false, ⊎_elim, subst, arith, length, slice_set, not, if◌then◌else◌, map, filter, slice_index_or, All, list_any, cases_Bool, eq-eqb, ne_eqb, or_parts, All-nil, All-cons, All-head, All-tail, All-weaker, same_Some, Id, same, Life, Twig, Branch, Call, Standing, WithHooks, Slots, cause_in, seen, seen_conn, seen_call, seen_branches, on_branches, bare_call, IsBare, with_branches, with_standing, is_call, gone, IsPlaced, NoTwo, drop_twig, life_at, same_ctx, with_twigs, nat_tests}
+use Rattle.call_contexts.proofs.Names.{without, ◌≡◌, refl, sym, ap, ◌∙◌, ℕ, zero, suc, ◌<◌, List, [], ◌∷◌, ◌++◌, take, drop, Some, Bool, true, false, ⊎_elim, subst, arith, length, slice_set, not, if◌then◌else◌, map, filter, slice_index_or, All, list_any, cases_Bool, eq-eqb, ne_eqb, or_parts, All-nil, All-cons, All-head, All-tail, All-weaker, same_Some, Id, same, Life, Twig, Branch, Call, Standing, Slots, cause_in, seen, seen_conn, seen_call, seen_branches, on_branches, bare_call, IsBare, with_branches, is_call, IsPlaced, NoTwo, drop_twig, life_at, same_ctx, with_twigs, nat_tests}
 use Rattle.call_contexts.proofs.Hooking.{map_nil}
 use Rattle.call_contexts.proofs.Lists.{all_none, gone_first}
 use Rattle.call_contexts.proofs.Trees.{not_both, same_refl}

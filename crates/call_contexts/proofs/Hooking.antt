@@ -1,6 +1,7 @@
 -- The hooks of calls, which stand as the calls do.
-use Rattle.call_contexts.proofs.Names.{◌≡◌, refl, sym, ap, ◌∙◌, arith, ℕ, ◌<◌, suc, List, [], ◌∷◌, ◌++◌, drop, Option, Some, Bool, true, false, ⊎_elim, subst, nat_eq, is_some, not, map, filter, All, Result, IfSome, list_any, AllPairs, cases_Bool, eqb-true, map-append, All-nil, All-cons, All-head, All-tail, All-map, All-from_get_or, same_Some, Id, same, AfterFuncs, Operation, AfterFunc, Fire, RunNext, Stop, registered, waiting, due, is_on, IsAnswerOfFirst, Life, WithHooks, Slots, on_ctx, hook_for, seen_call, hook_of, kept_of, life_at, NoTwo, same_ctx, Rising, nat_tests}
+use Rattle.call_contexts.proofs.Names.{◌≡◌, refl, sym, ap, ◌∙◌, arith, ℕ, ◌<◌, suc, List, [], ◌∷◌, ◌++◌, drop, Option, Some, Bool, true, false, ⊎_elim, subst, nat_eq, is_some, not, map, filter, All, Result, Ok, Err, IfErr, ◌^◌, ◌≤◌, IfSome, list_any, AllPairs, cases_Bool, eqb-true, map-append, All-nil, All-cons, All-head, All-tail, All-map, All-from_get_or, same_Some, Id, same, AfterFuncs, Operation, AfterFunc, Fire, RunNext, Stop, registered, waiting, due, is_on, IsAnswerOfFirst, Life, Standing, WithHooks, with_hook, with_standing, Slots, on_ctx, hook_for, seen_call, hook_of, kept_of, life_at, NoTwo, same_ctx, Rising, nat_tests}
 use Rattle.std.proofs.Common.{eq-eqb}
+use Rattle.std.proofs.lemmas.Bool.{cases_lt}
 use Rattle.std.specs.declared.alloc.AllocError.{AllocError}
 use Rattle.after_funcs.specs.declared.registration.Registration.{Registration}
 use Rattle.after_funcs.specs.Stands.{StandsFor as HooksStand}
@@ -9,6 +10,16 @@ use Rattle.call_contexts.proofs.Lists.{any_map, all_stay, unmapped}
 
 pub pair_is : {C V H : Type 0} (v w : WithHooks C V H) → v.standing ≡ w.standing → v.hooks ≡ w.hooks → v ≡ w
 pair_is v w l h = ap (λ x. record { standing = x; hooks = v.hooks }) l ∙ ap (λ x. record { standing = w.standing; hooks = x }) h
+
+-- what stands changes so, and the hooks stay
+pub standing_is : {C V H : Type 0} {u v w : WithHooks C V H} (turn : Standing C V → Standing C V) → v ≡ w → u.standing ≡ turn v.standing → u.hooks ≡ v.hooks → u ≡ with_standing (turn w.standing) w
+standing_is {u = u} {v = v} {w = w} turn is stands hooks = pair_is u (with_standing (turn w.standing) w) (stands ∙ ap (λ x. turn x.standing) is) (hooks ∙ ap (λ x. x.hooks) is)
+
+-- what stands changes so, and a hook more waits
+pub hooked_is : {C V H : Type 0} {u v w : WithHooks C V H} (turn : Standing C V → Standing C V) (ctx : Id) (hook : H) → v ≡ w → u.standing ≡ turn v.standing
+    → u.hooks ≡ v.hooks ++ (ctx, hook) ∷ [] → u ≡ with_hook ctx hook (turn w.standing) w
+hooked_is {u = u} {w = w} turn ctx hook is stands hooks =
+    pair_is u (with_hook ctx hook (turn w.standing) w) (stands ∙ ap (λ x. turn x.standing) is) (hooks ∙ ap (λ x. x.hooks ++ (ctx, hook) ∷ []) is)
 
 pub filter_map_swap : {A B : Type 0} (f : A → B) (p : B → Bool) (xs : List A) → filter p (map f xs) ≡ map f (filter (λ x. p (f x)) xs)
 filter_map_swap f p [] = refl
@@ -40,6 +51,15 @@ map_drop_one f (x ∷ xs) = refl
 pub map_twice : {A B C : Type 0} (f : B → C) (g : A → B) (xs : List A) → map f (map g xs) ≡ map (λ x. f (g x)) xs
 map_twice f g [] = refl
 map_twice f g (x ∷ xs) = ap (λ l. f (g x) ∷ l) (map_twice f g xs)
+
+-- the hook that is refused comes back, for whatever it was refused
+pub refused_back : {T H E : Type 0} (n : ℕ) (h : H) (full memory : E) (x : H × E) (r : Result T (H × E)) → r ≡ Err x → (2 ^ 62 ≤ n → r ≡ Err (h, full))
+    → (n < 2 ^ 62 → IfErr r (λ y. y ≡ (h, memory))) → x.0 ≡ h
+refused_back {T} {H} {E} n h full memory x r is more less = ⊎_elim (λ lt. ap (λ (y : H × E). y.0) (rw is at (less lt))) (λ le. ap back (sym is ∙ more le)) (cases_lt n (2 ^ 62))
+  where
+    back : Result T (H × E) → H
+    back (Ok a) = h
+    back (Err y) = y.0
 
 -- ---- the one call of a context
 

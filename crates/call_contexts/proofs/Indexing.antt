@@ -1,5 +1,5 @@
 -- The index of the calls by their ids, as calls come and go.
-use Rattle.call_contexts.proofs.Names.{◌≡◌, refl, sym, ap, ◌∙◌, ℕ, ◌<◌, List, [], ◌∷◌, ◌++◌, Option, Some, None, Bool, true, false, ⊎_elim, subst, arith, rules, not, map, filter, All, if◌then◌else◌, option_map, option_or, list_any, cases_Bool, All-cons, All-head, All-nil, All-tail, All-weaker, is_some, eqb-true, IfNone, IfSome, ◌==◌, same_Some, slice_index_or, slice_set, Id, same, CallId, Life, Twig, NoTwo, Rising, life_at, life_for, names_of, numbers_of, same_ctx, Slots, call_for, first_of, seen_call, nat_tests}
+use Rattle.call_contexts.proofs.Names.{◌≡◌, refl, sym, ap, ◌∙◌, ℕ, ◌<◌, List, [], ◌∷◌, ◌++◌, Option, Some, None, Bool, true, false, ⊎_elim, subst, arith, rules, not, map, filter, All, if◌then◌else◌, option_map, option_or, list_any, cases_Bool, All-cons, All-head, All-nil, All-tail, All-weaker, is_some, eqb-true, IfNone, IfSome, ◌==◌, same_Some, slice_index_or, slice_set, Id, same, CallId, Life, Twig, NoTwo, Rising, life_at, life_for, names_of, numbers_of, same_ctx, Slots, call_for, first_of, seen_call, WithHooks, nat_tests}
 use Rattle.std.specs.Prelude.{cond}
 use Rattle.std.specs.BTreeMap.{BTreeMap, UpdatesBy, is_at}
 use Rattle.std.specs.BTreeMap.Range.{IsEntryInRange, IsLeBy, IsRangeOf}
@@ -54,6 +54,21 @@ call_refl a = grind (arith, rules)
 call_turned : (a b : CallId) → is_call a b ≡ is_call b a
 call_turned a b = grind (arith, rules)
 
+-- a call that is forgotten once more was never there
+pub forgotten : (id : CallId) (ctx : Id) (old mid new : List Entry) → Sets id (Some ctx) old mid → Sets id None mid new → Sets id None old new
+forgotten id ctx old mid new added gone other = gone other ∙ by (is_call id other) (added other)
+  where
+    by : (b : Bool) → indexed other mid ≡ (if b then Some ctx else indexed other old) → (if b then None else indexed other mid) ≡ (if b then None else indexed other old)
+    by true is = refl
+    by false is = is
+
+pub unnamed : (id : CallId) (old new : List Entry) → new ≡ old → indexed id old ≡ None → Sets id None old new
+unnamed id old new same none other = ap (indexed other) same ∙ by (is_call id other) refl
+  where
+    by : (b : Bool) → is_call id other ≡ b → indexed other old ≡ (if b then None else indexed other old)
+    by true is = ap (λ a. indexed a old) (sym (call_true id other is)) ∙ none
+    by false is = refl
+
 -- ---- the names of calls
 
 named_life : (id : CallId) (ls : List Life) → named_in id (names_of ls) ≡ option_map (λ l. l.ctx) (life_for id ls)
@@ -72,9 +87,14 @@ life_of id l (m ∷ ms) rising is = grind (arith, nat_tests, life_of id l ms, sa
         (λ (n : is_call k.id id ≡ false). number_above ks (All-tail (λ n. m.ctx.0 < n) k.ctx.0 (numbers_of ks) all) (rw n at at))
         (cases_Bool (is_call k.id id))
 
-pub not_begun : {C V : Type 0} (slots : Slots C V) (id : CallId) (ls : List Life) → call_for id (map (seen_call slots) ls) ≡ None → life_for id ls ≡ None
+not_begun : {C V : Type 0} (slots : Slots C V) (id : CallId) (ls : List Life) → call_for id (map (seen_call slots) ls) ≡ None → life_for id ls ≡ None
 not_begun slots id [] none = refl
 not_begun slots id (l ∷ ls) none = ⊎_elim (λ (y : is_call l.id id ≡ true). let clash : Some (seen_call slots l) ≡ None = rw y at none in cc) (λ (n : is_call l.id id ≡ false). rw n (not_begun slots id ls (rw n at none))) (cases_Bool (is_call l.id id))
+
+-- none is seen of that id
+pub not_seen : {C V H : Type 0} {v w : WithHooks C V H} (slots : Slots C V) (id : CallId) (ls : List Life) → v ≡ w → v.standing.calls ≡ map (seen_call slots) ls
+    → call_for id w.standing.calls ≡ None → life_for id ls ≡ None
+not_seen slots id ls is seen_is none = not_begun slots id ls (ap (call_for id) (sym seen_is) ∙ ap (λ x. call_for id x.standing.calls) is ∙ none)
 
 -- ---- what the index answers
 

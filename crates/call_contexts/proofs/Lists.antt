@@ -1,5 +1,5 @@
 -- Lists of calls and of connections.
-use Rattle.call_contexts.proofs.Names.{◌≡◌, refl, sym, ap, ◌∙◌, List, [], ◌∷◌, Some, None, Bool, true, false, ⊎_elim, subst, arith, ◌||◌, not, map, filter, All, Result, Ok, Err, IfOk, OnErr, list_any, cases_Bool, or_left, or_parts, or_right, All-nil, All-cons, All-head, All-tail, same_Some, Id, same, CallId, Life, same_ctx, life_at, life_for}
+use Rattle.call_contexts.proofs.Names.{◌≡◌, refl, sym, ap, ◌∙◌, List, [], ◌∷◌, ◌++◌, Some, None, Bool, true, false, ⊎_elim, subst, arith, ◌||◌, not, map, filter, All, Result, Ok, Err, IfOk, OnOk, OnErr, IsErrAnd, is_err, list_any, cases_Bool, or_left, or_parts, or_right, All-nil, All-cons, All-head, All-tail, same_Some, Id, same, CallId, Life, same_ctx, life_at, life_for}
 use Rattle.gateway_model.specs.Past.{is_call}
 use Rattle.call_contexts.proofs.Trees.{same_true}
 
@@ -42,6 +42,10 @@ pub map_same : {A B : Type 0} (g : A → B) (f : A → A) (ls : List A) → ((l 
 map_same g f [] same_there = refl
 map_same g f (l ∷ ls) same_there = ap (λ x. x ∷ map g ls) (same_there l) ∙ ap (λ xs. g (f l) ∷ xs) (map_same g f ls same_there)
 
+-- one more, behind a list by another name
+pub pushed_on : (l : Life) (ls mid new : List Life) → new ≡ mid ++ l ∷ [] → mid ≡ ls → new ≡ ls ++ l ∷ []
+pushed_on l ls mid new to same_there = to ∙ ap (λ ks. ks ++ l ∷ []) same_there
+
 -- what an answer is
 pub by_answer : {T E P Q R G : Type 0} (r : Result T E) → IfOk r (λ _. P) → OnErr r Q → OnErr r R → (P → G) → (Q → R → G) → G
 by_answer (Ok a) p q r ok err = ok p
@@ -54,6 +58,22 @@ if_ok (Err e) p ok = tt
 pub on_err : {T E Q R G : Type 0} (r : Result T E) → OnErr r Q → OnErr r R → (Q → R → G) → OnErr r G
 on_err (Ok a) q r err = tt
 on_err (Err e) q r err = err q r
+
+pub unless_err : {T E P : Type 0} (r : Result T E) → is_err r ≡ false → OnOk r P → P
+unless_err (Ok a) is p = p
+unless_err (Err e) is p = cc
+
+pub once_err : {T E P : Type 0} (r : Result T E) → is_err r ≡ true → OnErr r P → P
+once_err (Ok a) is p = cc
+once_err (Err e) is p = p
+
+pub none_ok : {T E : Type 0} (P : T → Type 0) (Q : E → Type 0) (r : Result T E) → IsErrAnd r Q → IfOk r P
+none_ok P Q (Ok a) none = absurd none
+none_ok P Q (Err e) none = tt
+
+pub err_if : {T E P : Type 0} (r : Result T E) → P → OnErr r P
+err_if (Ok a) p = tt
+err_if (Err e) p = p
 
 -- ---- the call of an id, and of a context
 

@@ -1,5 +1,5 @@
 -- What is seen after a moment, a cancel and a drain.
-use Rattle.call_contexts.proofs.Names.{◌≡◌, refl, sym, ap, ◌∙◌, arith, ℕ, ◌≤◌, List, [], ◌∷◌, Option, Some, None, Bool, true, false, ⊎_elim, ◌&&◌, ◌||◌, min, map, All, option_map, option_and_then, unwrap_or, option_or, All-head, All-map, All-tail, All-weaker, cases_Bool, or-true, Kind, Background, Cancel, Deadline, Value, Id, Ended, same, Makes, Cancels, Advances, held, chain, deadline, sooner, has_cancel, ending, TreeValue, StandsFor, IsFirstDeadline, IsNotAfter, IsLawful, is_among, is_ended_by_cancel, AfterFuncs, CallId, Life, Twig, Conn, Call, IsNoSooner, AreNoSooner, Slots, cause_in, value_in, seen, seen_conn, seen_call, Branch, seen_branch, seen_branches, call_for, ctx_for, ends_call, ends_branch, expires_branch, expires_call, ends_conn, if_cancelled, if_due, is_conn, ended_conn, expired, all_ended, Op, TreeLaws, IsSound, IsLife, IsConn, IsHolder, IsTwig, kind_of, life_for, IsUnhanded, why, nat_tests}
+use Rattle.call_contexts.proofs.Names.{◌≡◌, refl, sym, ap, ◌∙◌, arith, ℕ, ◌≤◌, List, [], ◌∷◌, Option, Some, None, Bool, true, false, ⊎_elim, ◌&&◌, ◌||◌, min, map, All, option_map, option_and_then, unwrap_or, option_or, All-head, All-map, All-tail, All-weaker, cases_Bool, or-true, Kind, Background, Cancel, Deadline, Value, Id, Ended, same, Makes, Cancels, Advances, held, chain, deadline, sooner, has_cancel, ending, TreeValue, StandsFor, IsFirstDeadline, IsNotAfter, IsLawful, is_among, is_ended_by_cancel, AfterFuncs, CallId, Life, Twig, Conn, Call, IsNoSooner, AreNoSooner, Slots, cause_in, value_in, seen, seen_conn, seen_call, Branch, seen_branch, seen_branches, call_for, ctx_for, ends_call, ends_branch, expires_branch, expires_call, ends_conn, if_cancelled, if_due, is_conn, ended_conn, expired, all_ended, Op, TreeLaws, IsSound, IsLife, IsConn, IsHolder, IsTwig, kind_of, life_for, IsUnhanded, why, WithHooks, nat_tests}
 use Rattle.context_tree.specs.declared.error.Cause.{Cause}
 use Rattle.context_tree.specs.declared.error.Cause.TheVariants.{Given}
 use Rattle.gateway_model.specs.Past.{is_call}
@@ -92,6 +92,11 @@ module _ {C V : Type 0} where
       → ((x : Id) (r : V) → holder ≡ Some x → held x past ≡ Some (Value conn 0 r) → held x later ≡ Some (Value conn 0 r))
       → IsHolder past conn holder → option_and_then (value_in new.slots) holder ≡ option_and_then (value_in old.slots) holder
   request_stays old new past later conn h5 h6 holder h8 h9 = grind (arith, nat_tests)
+
+-- one that is seen is kept
+pub conn_stands : {C V H : Type 0} {v w : WithHooks C V H} (slots : Slots C V) (conns : List Id) (conn : Id) → v ≡ w → v.standing.conns ≡ map (seen_conn slots) conns
+    → is_conn conn w.standing.conns ≡ true → is_among conn conns ≡ true
+conn_stands slots conns conn is seen_is known = sym (conn_among slots conns conn) ∙ ap (is_conn conn) (sym seen_is) ∙ ap (λ x. is_conn conn x.standing.conns) is ∙ known
 
 -- ---- a new tree
 

@@ -1,5 +1,5 @@
 -- How the connections and calls are kept in a tree of contexts and a table of hooks.
-use Rattle.std.specs.Prelude.{◌≡◌, ◌<◌, ◌||◌, ◌==◌, ℕ, Bool, true, false, is_some, nat_le, List, [], ◌∷◌, ◌++◌, map, slice_index_or, if◌then◌else◌, All, IfNone, IfSome, Option, Some, None, option_map, option_and_then, unwrap_or}
+use Rattle.std.specs.Prelude.{◌≡◌, ◌<◌, ◌==◌, ℕ, Bool, true, false, is_some, nat_le, List, [], ◌∷◌, ◌++◌, map, slice_index_or, if◌then◌else◌, All, IfNone, IfSome, Option, Some, None, option_map, option_and_then, unwrap_or}
 use Rattle.std.specs.List.{find, list_any}
 use Rattle.std.specs.Option.{option_map_or, option_or}
 use Rattle.context_tree.specs.declared.error.Cause.{Cause}

@@ -115,18 +115,18 @@ impl Code {
         }
         None
     }
+}
 
-    /// The code that the status of a reply stands for, where its body names none.
-    pub fn inferred(status: StatusCode) -> Code
-        ensures { result ≡ inferred_code status }
-    {
-        match status.as_u16() {
-            400 => Code::Internal,
-            401 => Code::Unauthenticated,
-            403 => Code::PermissionDenied,
-            404 => Code::Unimplemented,
-            429 | 502 | 503 | 504 => Code::Unavailable,
-            _ => Code::Unknown,
-        }
+/// The code that the status of a reply stands for, where its body names none.
+pub fn inferred_code(status: StatusCode) -> Code
+    ensures { result ≡ inferred_code status }
+{
+    match status.as_u16() {
+        400 => Code::Internal,
+        401 => Code::Unauthenticated,
+        403 => Code::PermissionDenied,
+        404 => Code::Unimplemented,
+        429 | 502 | 503 | 504 => Code::Unavailable,
+        _ => Code::Unknown,
     }
 }

@@ -11,7 +11,7 @@ mod document;
 pub mod laws;
 mod reply;
 
-pub use code::Code;
+pub use code::{Code, inferred_code};
 pub use detail::Detail;
 pub use details::Details;
 pub use document::{RpcError, write};

@@ -5,7 +5,7 @@ ghost use Rattle.error_document.specs.Codes.{code_named};
 ghost use Rattle.json_values.specs.Json.{text_at};
 ghost use Rattle.error_document.specs.Documents.{detail_of, detail_entries, details_in, status_message, error_from, read_error};
 
-use crate::code::Code;
+use crate::code::{Code, inferred_code};
 use crate::detail::Detail;
 use crate::details::Details;
 use crate::document::RpcError;
@@ -48,7 +48,7 @@ fn inferred(
     ensures { IfOk result
         (λ error. error ≡ error_from status None (option_map (λ text. text.now) message.entry) []) }
 {
-    let code = Code::inferred(status);
+    let code = inferred_code(status);
     match message {
         Some(message) => RpcError::plain(alloc, code, message),
         None => RpcError::plain(alloc, code, message_for(alloc, status)?.as_str()),

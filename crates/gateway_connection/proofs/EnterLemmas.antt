@@ -1,7 +1,8 @@
 -- What comes on a connection's stream: its contexts, and what it makes of the connection.
-use Rattle.gateway_connection.specs.lemmas.Names.{◌≡◌, ℕ, ◌+◌, ◌≤◌, refl, sym, ap, ◌∙◌, List, [], ◌∷◌, ◌++◌, Option, Some, None, Bool, true, false, ⊎_elim, map, length, append-nil, subst, arith, filter, not, range_with_len, option_or, option_map_or, PlanRecord, HttpRequest, eq-eqb, or_parts, length-append, filter-append, list_any-append, most_requests, CallEvent, ReplyEntry, CallId, ArrivedCall, is_call, ContextsValue, KeepsOthers, LifeValue, begun, by_deadline, by_drain, contexts_value, ending_at, ending_life, ends_of, is_life, is_peer, life_by, without, HookedContexts, StocksStay, TakesAtMostOne, stock_in, begins, begun_live, ends_first, first_jobs, first_ones, first_out, KeptValue, gone, TaskValue, HeldConnection, step_to, Step, job_at, task_of, all_stay, or_true, ReplyValue, waiting, call_itself, Holds, entered_held, hears, next_held, asking, Arrives, Begins, Enters, MayFail, IsBegun, MayCome, event_for, first_started, life_in, linked_calls, none_over, IsTied, LeavesOthers, own_calls, Shared, JobsValue, nat_tests, inl}
+use Rattle.gateway_connection.specs.lemmas.Names.{◌≡◌, ℕ, ◌+◌, ◌≤◌, refl, sym, ap, ◌∙◌, List, [], ◌∷◌, ◌++◌, Option, Some, None, Bool, true, false, ⊎_elim, map, length, append-nil, subst, arith, filter, not, range_with_len, option_map, option_or, option_map_or, is_some, PlanRecord, HttpRequest, eq-eqb, or_parts, length-append, filter-append, list_any-append, most_requests, CallEvent, ReplyEntry, CallId, ArrivedCall, is_call, ContextsValue, KeepsOthers, LifeValue, begun, by_deadline, by_drain, contexts_value, ending_at, ending_life, ends_of, is_life, is_peer, life_by, without, HookedContexts, StocksStay, TakesAtMostOne, stock_in, begins, begun_live, ends_first, first_jobs, first_ones, first_out, KeptValue, gone, TaskValue, HeldConnection, step_to, Step, job_at, task_of, all_stay, or_true, ReplyValue, waiting, call_itself, Holds, entered_held, hears, next_held, asking, Arrives, Begins, Enters, MayFail, IsBegun, MayCome, event_for, first_started, life_in, linked_calls, none_over, IsTied, LeavesOthers, own_calls, Shared, JobsValue, nat_tests, inl, entry_in, map-append, held_by, held_connection, ReaderValue}
 use Rattle.connect_codec.specs.Verdict.{verdict_of}
-use Rattle.connect_codec.specs.declared.verdict.Verdict.TheVariants.{Ask}
+use Rattle.connect_codec.specs.declared.verdict.Verdict.{Verdict}
+use Rattle.connect_codec.specs.declared.verdict.Verdict.TheVariants.{Ask, Bare, Fail}
 use Rattle.gateway_model.specs.Arrival.{Asks, Judged, arrival_by, arrival_of, plan_of}
 use Rattle.std.proofs.lemmas.Simd.{map-map}
 use Rattle.gateway_model.specs.declared.entry.ReplyEntry.TheVariants.{Refused}
@@ -19,6 +20,25 @@ use Rattle.gateway_connection.proofs.TimedLemmas.{first_is, first_timed, life_on
 -- a request that asks for a call of the plan that its path names
 pub asks_is : (plans : List PlanRecord) (q : HttpRequest) (plan : PlanRecord) (timeout : Option ℕ) (id : Option (List ℕ)) → plan_of plans q ≡ Some plan → verdict_of q true ≡ Ask timeout id → arrival_of plans q ≡ Asks plan timeout id
 asks_is plans q plan timeout id found asks = ap (λ o. option_map_or (λ p. arrival_by (verdict_of q true) p) o (Judged (verdict_of q false))) found ∙ ap (λ v. arrival_by v plan) asks
+
+-- .. and one that asks for none, whatever its path names
+judged_by : (v : Verdict) (plan : PlanRecord) → ((t : Option ℕ) (id : Option (List ℕ)) → v ≡ Ask t id → ⊥) → arrival_by v plan ≡ Judged v
+judged_by (Ask t id) plan never = absurd (never t id refl)
+judged_by (Bare status) plan never = refl
+judged_by (Fail error) plan never = refl
+
+judged_at : (named : Option PlanRecord) (q : HttpRequest) (v : Verdict) (known : Bool) → known ≡ is_some named → v ≡ verdict_of q known
+    → ((t : Option ℕ) (id : Option (List ℕ)) → v ≡ Ask t id → ⊥) → option_map_or (λ p. arrival_by (verdict_of q true) p) named (Judged (verdict_of q false)) ≡ Judged v
+judged_at None q v known known_is v_is never = ap Judged (ap (verdict_of q) (sym known_is) ∙ sym v_is)
+judged_at (Some p) q v known known_is v_is never = ap (λ w. arrival_by w p) (ap (verdict_of q) (sym known_is) ∙ sym v_is) ∙ judged_by v p never
+
+some_mapped : {A : Type 0} (found : Option A) (f : A → PlanRecord) → is_some found ≡ is_some (option_map f found)
+some_mapped None f = refl
+some_mapped (Some x) f = refl
+
+pub judged_is : {A : Type 0} (found : Option A) (f : A → PlanRecord) (plans : List PlanRecord) (q : HttpRequest) (v : Verdict) (known : Bool) → known ≡ is_some found
+    → option_map f found ≡ plan_of plans q → v ≡ verdict_of q known → ((t : Option ℕ) (id : Option (List ℕ)) → v ≡ Ask t id → ⊥) → arrival_of plans q ≡ Judged v
+judged_is found f plans q v known known_is path v_is never = judged_at (plan_of plans q) q v known (known_is ∙ some_mapped found f ∙ ap is_some path) v_is never
 
 -- ---- one on which something may come
 
@@ -103,6 +123,15 @@ first_linked moment id a x y z fresh y_is z_is = grind (arith, nat_tests, first_
 pub first_queued : (moment : ℕ) (id : CallId) (a : ArrivedCall) (first : List TaskValue) → first ≡ map (task_of id a) (range_with_len 0 (first_ones a))
     → map (job_at moment) first ≡ first_jobs moment id a
 first_queued moment id a first first_is = ap (map (job_at moment)) first_is ∙ map-map (job_at moment) (task_of id a) (range_with_len 0 (first_ones a))
+
+-- a slot and a call are there more
+pub begun_now : (number taken : ℕ) (xs ys : List (Option ReplyValue)) (ks ls : List KeptValue) (call : KeptValue) (broken closed hung_up : Bool) (reader : ReaderValue)
+    → ys ≡ xs ++ None ∷ [] → ls ≡ ks ++ call ∷ [] → held_by number taken ys ls broken closed hung_up reader
+    ≡ record (held_by number taken xs ks broken closed hung_up reader) { slots = map entry_in xs ++ None ∷ []; calls = ks ++ call ∷ [] }
+begun_now number taken xs ys ks ls call broken closed hung_up reader slots calls =
+    ap (λ zs. held_by number taken zs ls broken closed hung_up reader) slots
+    ∙ ap (λ zs. held_by number taken (xs ++ None ∷ []) zs broken closed hung_up reader) calls
+    ∙ ap (λ zs. held_connection number taken zs (ks ++ call ∷ []) broken closed hung_up reader) (map-append entry_in xs (None ∷ []))
 
 -- a call began
 pub begun_held : (k : HeldConnection) (moment : ℕ) (a : ArrivedCall) (call : KeptValue) (first : List TaskValue) → IsBegun moment (next_held k) a call first

@@ -1,8 +1,10 @@
 -- A call as it begins: its branches are given to its group.
-use Rattle.gateway_connection.specs.lemmas.Names.{◌≡◌, ℕ, zero, suc, ◌+◌, ◌≤◌, ◌<◌, ◌-◌, min, Bool, true, false, List, [], ◌∷◌, ◌++◌, map, length, Option, None, Some, Result, Ok, sym, ap, ◌∙◌, arith, ⊎_elim, append-nil, slice_index_or, IsTrue, if◌then◌else◌, nat_lt, option_to_list, range_with_len, cases_lt, cases_Bool, lt-ltb, le-ltb, ltb-true, ltb-false, length-map, length-map-range_with_len, get_or-map-range_with_len, map-range_with_len_more, sum_by_push, CallEvent, CallId, task_of, TaskValue, ArrivedCall, deadline_from, live_value, kept_value, IsKept, IsBegun, HasGone, nat_tests}
+use Rattle.gateway_connection.specs.lemmas.Names.{◌≡◌, ℕ, zero, suc, ◌+◌, ◌≤◌, ◌<◌, ◌-◌, min, Bool, true, false, List, [], ◌∷◌, ◌++◌, map, length, Option, None, Some, Result, Ok, Err, sym, ap, ◌∙◌, arith, ⊎_elim, append-nil, slice_index_or, IsTrue, if◌then◌else◌, nat_lt, option_to_list, range_with_len, cases_lt, cases_Bool, lt-ltb, le-ltb, ltb-true, ltb-false, length-map, length-map-range_with_len, get_or-map-range_with_len, map-range_with_len_more, sum_by_push, CallEvent, CallId, task_of, TaskValue, ArrivedCall, deadline_from, live_value, kept_value, IsKept, IsBegun, HasGone, nat_tests}
+use Rattle.std.specs.Prelude.{OnOk}
+use Rattle.std.specs.Result.{is_ok}
 use Rattle.std.proofs.lemmas.Simd.{map-map}
 use Rattle.std.proofs.Math.ListN.{get_or-eq_default}
-use Rattle.err_group.specs.GroupState.{GroupState, has_room}
+use Rattle.err_group.specs.GroupState.{GroupState, has_room, is_idle}
 use Rattle.gateway_connection.proofs.KeptLemmas.{outs}
 
 abbrev Tasks : Type 0
@@ -10,6 +12,29 @@ Tasks = GroupState TaskValue (Unit {0})
 
 pub ok_is : {T E : Type 0} (x y : T) (r s : Result T E) → r ≡ Ok x → s ≡ Ok y → r ≡ s → x ≡ y
 ok_is x y r s r_is s_is e = cc
+
+-- none of a call's branches was given to the group, which has the call's limit
+none_gone : (id : CallId) (a : ArrivedCall) (g : Tasks) → g.active ≡ 0 → g.queue ≡ [] → g.limit ≡ a.plan.limit → HasGone id a 0 g []
+none_gone id a g active queue limit =
+    let least : 0 ≡ min 0 a.plan.limit = omega arith in
+    record {
+      active_is = active ∙ least;
+      limit_is = limit;
+      queue_is = queue ∙ ap (λ n. map (task_of id a) (range_with_len n (0 - n))) least;
+      first_are = ap (λ n. map (task_of id a) (range_with_len 0 n)) least;
+    }
+
+-- .. which it has got while it was empty
+set_ok : {T E P : Type 0} (r : Result T E) → is_ok r ≡ true → OnOk r P → P
+set_ok (Ok x) is p = p
+set_ok (Err e) is p = absurd (cc)
+
+pub limit_set : {T E : Type 0} (id : CallId) (a : ArrivedCall) (empty old new : Tasks) (limit : ℕ) (r : Result T E) → old ≡ empty → is_idle empty ≡ true → empty.active ≡ 0 → empty.queue ≡ []
+    → is_ok r ≡ is_idle old → OnOk r (new ≡ record old { limit = limit }) → limit ≡ a.plan.limit → HasGone id a 0 new []
+limit_set id a empty old new limit r is idle active queue decides ok limit_is =
+    let now = set_ok r (decides ∙ ap is_idle is ∙ idle) ok in
+    none_gone id a new (ap (λ (g : Tasks). g.active) (now ∙ ap (λ (g : Tasks). record g { limit = limit }) is) ∙ active)
+    (ap (λ (g : Tasks). g.queue) (now ∙ ap (λ (g : Tasks). record g { limit = limit }) is) ∙ queue) (ap (λ (g : Tasks). g.limit) now ∙ limit_is)
 
 -- one more branch was given to the group
 pub gone_more : (id : CallId) (a : ArrivedCall) (i : ℕ) (g h : Tasks) (first after : List TaskValue) (task : TaskValue) (started : Option TaskValue) → HasGone id a i g first → task ≡ task_of id a i

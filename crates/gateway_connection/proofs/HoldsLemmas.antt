@@ -1,5 +1,5 @@
 -- A step keeps what a connection holds of its calls and slots.
-use Rattle.gateway_connection.specs.lemmas.Names.{◌≡◌, ℕ, zero, suc, ◌+◌, ◌≤◌, ◌<◌, Bool, true, false, List, [], ◌∷◌, ◌++◌, length, map, None, refl, sym, ap, ◌∙◌, subst, arith, Some, slice_index_or, ◌||◌, All, filter, slice_set, ◌==◌, get_or-map, get_or_default, length-append, length-map, All-filter, All-push, most_requests, CallId, call_id, is_call, AreApart, KeptValue, call_at, HeldConnection, IsFound, given_up, kept_at, no_call, Holds, next_held, call_found, calls_filtered, calls_more, nat_tests}
+use Rattle.gateway_connection.specs.lemmas.Names.{◌≡◌, ℕ, zero, suc, ◌+◌, ◌≤◌, ◌<◌, Bool, true, false, List, [], ◌∷◌, ◌++◌, length, map, None, refl, sym, ap, ◌∙◌, subst, arith, Some, slice_index_or, ◌||◌, All, filter, slice_set, ◌==◌, get_or-map, get_or_default, length-append, length-map, All-filter, All-push, most_requests, CallId, call_id, is_call, AreApart, KeptValue, call_at, HeldConnection, IsFound, given_up, kept_at, no_call, Holds, next_held, call_found, calls_filtered, calls_more, AreInPlace, held_by, Option, ReplyValue, ReaderValue}
 
 -- what is so of each place is so of all
 pub at_all : (P : KeptValue → Type 0) (ks : List KeptValue) → ((j : ℕ) → j < length ks → P (kept_at j ks)) → All P ks
@@ -28,7 +28,14 @@ holds_ids k l number size ids on_open few dead h = record {
 
 -- .. and no call changes at all
 pub holds_as : (k l : HeldConnection) → l.number ≡ k.number → l.calls ≡ k.calls → l.closed ≡ k.closed → l.broken ≡ k.broken → (next_held l).request ≡ (next_held k).request → Holds k → Holds l
-holds_as k l number calls closed broken next h = grind arith
+holds_as k l number calls closed broken next h = record {
+  own = subst (All (λ (c : KeptValue). c.id.conn ≡ l.number)) (sym calls) (subst (λ n. All (λ (c : KeptValue). c.id.conn ≡ n) k.calls) (sym number) h.own);
+  apart = subst AreApart (sym calls) h.apart;
+  came = λ on. subst (All (λ (c : KeptValue). c.id.request < (next_held l).request)) (sym calls)
+      (subst (λ n. All (λ (c : KeptValue). c.id.request < n) k.calls) (sym next) (h.came (sym closed ∙ on)));
+  dead = λ shut. subst (All (λ (c : KeptValue). c.call.live ≡ None)) (sym calls) (h.dead (ap (λ b. b || k.broken) (sym closed) ∙ ap (λ b. l.closed || b) (sym broken) ∙ shut));
+  few = let few = h.few in omega (arith, few, next);
+}
 
 -- calls that are given up
 pub given_at : (ks : List KeptValue) (j : ℕ) → j < length ks → kept_at j (map given_up ks) ≡ given_up (kept_at j ks)
@@ -68,7 +75,10 @@ set_dead ks i new dead all = at_all (λ c. c.call.live ≡ None) (slice_set ks i
 
 pub holds_set : (k l : HeldConnection) (i : ℕ) (new : KeptValue) → l.number ≡ k.number → l.calls ≡ slice_set k.calls i new → l.closed ≡ k.closed → l.broken ≡ k.broken
     → (next_held l).request ≡ (next_held k).request → new.id ≡ (kept_at i k.calls).id → ((k.closed || k.broken) ≡ true → new.call.live ≡ None) → Holds k → Holds l
-holds_set k l i new number calls closed broken next same stays h = grind (arith, nat_tests, holds_ids, set_size, set_id, set_dead)
+holds_set k l i new number calls closed broken next same stays h = holds_ids k l number (ap (λ (ks : List KeptValue). length ks) calls ∙ set_size k.calls i new)
+    (λ j lt. ap (λ ks. (kept_at j ks).id) calls ∙ set_id k.calls i new same j lt) (λ on. (sym closed ∙ on, omega (arith, next))) (let few = h.few in omega (arith, few, next))
+    (λ shut. let was = ap (λ b. b || k.broken) (sym closed) ∙ ap (λ b. l.closed || b) (sym broken) ∙ shut in
+    subst (All (λ (c : KeptValue). c.call.live ≡ None)) (sym calls) (set_dead k.calls i new (stays was) (h.dead was))) h
 
 -- some calls are left
 pub holds_filtered : (k l : HeldConnection) (p : KeptValue → Bool) → l.number ≡ k.number → l.calls ≡ filter p k.calls → l.closed ≡ k.closed → l.broken ≡ k.broken
@@ -82,6 +92,17 @@ holds_filtered k l p number calls closed broken next h = record {
       (All-filter p (λ (c : KeptValue). c.call.live ≡ None) k.calls (h.dead (ap (λ b. b || k.broken) (sym closed) ∙ ap (λ b. l.closed || b) (sym broken) ∙ shut)));
   few = let few = h.few in omega (arith, few, next);
 }
+
+-- room was made for more, and nothing else changed
+pub roomy_is : (number taken : ℕ) (xs ys : List (Option ReplyValue)) (ks ls : List KeptValue) (broken closed hung_up : Bool) (reader : ReaderValue) → ys ≡ xs → ls ≡ ks
+    → held_by number taken ys ls broken closed hung_up reader ≡ held_by number taken xs ks broken closed hung_up reader
+roomy_is number taken xs ys ks ls broken closed hung_up reader slots calls =
+    ap (λ zs. held_by number taken zs ls broken closed hung_up reader) slots ∙ ap (λ zs. held_by number taken xs zs broken closed hung_up reader) calls
+
+pub roomy_holds : (number taken : ℕ) (xs ys : List (Option ReplyValue)) (ks ls : List KeptValue) (broken closed hung_up : Bool) (reader : ReaderValue) → ys ≡ xs → ls ≡ ks
+    → AreInPlace number taken xs × Holds (held_by number taken xs ks broken closed hung_up reader) → AreInPlace number taken ys × Holds (held_by number taken ys ls broken closed hung_up reader)
+roomy_holds number taken xs ys ks ls broken closed hung_up reader slots calls was =
+    (subst (AreInPlace number taken) (sym slots) was.0, subst Holds (sym (roomy_is number taken xs ys ks ls broken closed hung_up reader slots calls)) was.1)
 
 -- ---- one request more
 

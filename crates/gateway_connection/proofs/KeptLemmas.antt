@@ -1,5 +1,5 @@
 -- A kept call: as many tasks are active as branches are out, and those that wait are the ones that have not started.
-use Rattle.gateway_connection.specs.lemmas.Names.{◌≡◌, ℕ, ◌+◌, ◌≤◌, ◌<◌, ◌-◌, Bool, true, false, List, [], ◌∷◌, ◌++◌, map, length, drop, Option, None, Some, Result, Ok, Err, refl, sym, ap, ◌∙◌, subst, arith, slice_index_or, ◌⊎◌, All, All-nil, if◌then◌else◌, ◌==◌, slice_set, slice_get, option_map, option_to_list, inl, inr, count_by, list_any, nat_lt, ne_eqb, eqb-true, get_or-set_other, length-set, length-append, lt-ltb, sum_by-cons, sum_by-set, Outcome, CallEvent, CallId, CallRecord, task_of, job_at, TaskValue, KeptValue, ArrivedCall, IsLawful, record_of, deadlines_next, result_on, next_out, rest_of, first_of, LiveValue, live_value, kept_value, started_of, IsGoing, IsKept, IsStep, nat_tests, Live, ContextsValue, branch_started, passed_by, passed_on, deadline_from}
+use Rattle.gateway_connection.specs.lemmas.Names.{◌≡◌, ℕ, ◌+◌, ◌≤◌, ◌<◌, ◌-◌, Bool, true, false, List, [], ◌∷◌, ◌++◌, map, length, drop, Option, None, Some, Result, Ok, Err, refl, sym, ap, ◌∙◌, subst, arith, slice_index_or, ◌⊎◌, All, All-nil, if◌then◌else◌, ◌==◌, slice_set, slice_get, option_map, option_to_list, inl, inr, count_by, list_any, nat_lt, ne_eqb, eqb-true, get_or-set_other, length-set, length-append, lt-ltb, sum_by-cons, sum_by-set, Outcome, CallEvent, CallId, CallRecord, task_of, job_at, TaskValue, KeptValue, ArrivedCall, IsLawful, record_of, deadlines_next, result_on, next_out, rest_of, first_of, LiveValue, live_value, kept_value, started_of, IsGoing, IsKept, IsStep, nat_tests, Live, ContextsValue, branch_started, passed_by, passed_on, deadline_from, suc, zero, has_out, back_kept}
 use Rattle.std.specs.Prelude.{cond}
 use Rattle.connect_codec.specs.declared.answer.Outcome.TheVariants.{Answer, Fail}
 use Rattle.err_group.specs.GroupState.{GroupState, Finishes, freed_by}
@@ -25,6 +25,16 @@ any_out (false ∷ out) = any_out out
 
 pub count_back : (out : List Bool) (i : ℕ) → slice_index_or out i false ≡ true → outs (slice_set out i false) + 1 ≡ outs out
 count_back out i it = grind (arith, nat_tests, sum_by-set, within)
+
+same_set : (out : List Bool) (i : ℕ) → slice_index_or out i false ≡ false → out ≡ slice_set out i false
+same_set [] i off = refl
+same_set (b ∷ out) zero off = ap (λ x. x ∷ out) off
+same_set (b ∷ out) (suc i) off = ap (λ xs. b ∷ xs) (same_set out i off)
+
+-- one that is not out comes back: of a call that can't be decided any more nothing changes
+pub none_back : (k : KeptValue) (i : ℕ) → has_out k.call i ≡ false → k.call.live ≡ None → k ≡ back_kept i k
+none_back k i off dead = ap (λ out. record { id = k.id; call = call_state out k.call.live }) (same_set k.call.out i off)
+    ∙ ap (λ l. record { id = k.id; call = call_state (slice_set k.call.out i false) l }) dead
 
 pub count_out : (out : List Bool) (i : ℕ) → i < length out → slice_index_or out i false ≡ false → outs (slice_set out i true) ≡ outs out + 1
 count_out out i lt not_so = grind (arith, nat_tests, sum_by-set)

@@ -1,5 +1,5 @@
 -- What a step leaves of what it was lent, and the connection's tie, over several parts of a step.
-use Rattle.gateway_connection.specs.lemmas.Names.{◌≡◌, ℕ, zero, suc, ◌<◌, refl, sym, ap, ◌∙◌, List, [], ◌∷◌, ◌++◌, Some, None, Bool, true, false, map, length, append-nil, append_assoc, subst, arith, ◌||◌, filter, if◌then◌else◌, not, slice_set, All, list_any, remove, length-map, sum_by-cons, CallId, is_call, contexts_value, ends_of, peer, closed, HookedContexts, AreApart, KeptValue, CallState, call_at, HeldConnection, is_spent, IsFound, given_up, kept_at, waiting, waiting_in, all_stay, same_call, Forgets, back_held, broken_held, forgotten, lost_held, stays, call_apart, call_found, call_itself, LeavesRest, none_over, IsTied, Shared, nat_tests}
+use Rattle.gateway_connection.specs.lemmas.Names.{◌≡◌, ℕ, zero, suc, ◌<◌, refl, sym, ap, ◌∙◌, List, [], ◌∷◌, ◌++◌, Some, None, Bool, true, false, map, length, append-nil, append_assoc, subst, arith, ◌||◌, filter, if◌then◌else◌, not, slice_set, All, list_any, remove, length-map, sum_by-cons, CallId, is_call, contexts_value, ends_of, peer, closed, HookedContexts, AreApart, KeptValue, CallState, call_at, HeldConnection, is_spent, IsFound, given_up, kept_at, waiting, waiting_in, all_stay, same_call, Forgets, back_held, broken_held, forgotten, lost_held, stays, call_apart, call_found, call_itself, LeavesRest, none_over, IsTied, LeavesOthers, Shared, nat_tests}
 use Rattle.gateway_model.specs.Job.{JobValue}
 use Rattle.gateway_connection.specs.lemmas.OwnContexts.{others_none, others_then, closed_own}
 use Rattle.gateway_connection.proofs.DoneLemmas.{set_waits}
@@ -8,7 +8,13 @@ use Rattle.gateway_connection.proofs.SettleLemmas.{tied_calls}
 
 module _ {H : Type 0} where
   pub rest_then : (jobs more : List JobValue) (k l m : HeldConnection) (s t u : Shared H) → l.number ≡ k.number → LeavesRest jobs k l s t → LeavesRest more l m t u → LeavesRest (jobs ++ more) k m s u
-  rest_then jobs more k l m s t u number a b = search (arith, nat_tests, append_assoc, others_then)
+  rest_then jobs more k l m s t u number a b = record {
+    plans_are = b.plans_are ∙ a.plans_are;
+    moment_is = b.moment_is ∙ a.moment_is;
+    jobs_are = b.jobs_are ∙ ap (λ js. js ++ more) a.jobs_are ∙ append_assoc s.jobs.jobs jobs more;
+    waits = let first = a.waits in let last = b.waits in omega (arith, first, last);
+    others = others_then k.number s.contexts t.contexts u.contexts a.others (subst (λ n. LeavesOthers n t.contexts u.contexts) number b.others);
+  }
 
   -- nothing was done
   pub rest_none : (k : HeldConnection) (s : Shared H) → LeavesRest [] k k s s

@@ -1,5 +1,5 @@
 -- What a connection's reader read.
-use Rattle.gateway_connection.specs.lemmas.Names.{◌≡◌, ℕ, ◌+◌, ◌≤◌, ◌<◌, refl, sym, ap, ◌∙◌, List, [], ◌∷◌, ◌++◌, Option, Some, None, Ok, Err, true, false, length, subst, arith, take, inl, inr, ◌⊎◌, IfNone, IfSome, MatchOption, length-append, HasRead, ReaderValue, Reading, Stopped, Waiting, after_request, state_of, HttpRequest, most_requests, PlanRecord, Coming, HasBrought, MayGive, ReadsOn, arriving_in, broken_held, coming_of, hears, hung_held, next_held, read_held, broke, came, read, HeldConnection, HungUp, told, HookedContexts, KeepsHooks, Brings, BringsNone, Feeds, ReadsAll, ReadsNone, LeavesRest, MayStep, none_over, over_by, IsTied, Shared, nat_tests}
+use Rattle.gateway_connection.specs.lemmas.Names.{◌≡◌, ℕ, ◌+◌, ◌≤◌, ◌<◌, refl, sym, ap, ◌∙◌, List, [], ◌∷◌, ◌++◌, Option, Some, None, Ok, Err, true, false, length, subst, arith, take, inl, inr, ◌⊎◌, IfNone, IfSome, MatchOption, length-append, HasRead, ReaderValue, Reading, Stopped, Waiting, after_request, state_of, HttpRequest, most_requests, PlanRecord, Coming, HasBrought, MayGive, ReadsOn, arriving_in, broken_held, coming_of, hears, hung_held, next_held, read_held, broke, came, read, unread, HeldConnection, HungUp, told, HookedContexts, KeepsHooks, Brings, BringsNone, Feeds, ReadsAll, ReadsNone, LeavesRest, MayStep, none_over, over_by, IsTied, LeavesContexts, Shared, nat_tests}
 use Rattle.http_pieces.specs.Reader.{is_over}
 use Rattle.http_pieces.specs.declared.refusal.Refusal.{Refusal}
 use Rattle.http_pieces.specs.declared.state.State.TheVariants.{Refused as StateRefused}
@@ -40,11 +40,11 @@ reads_by n request bytes old pushed new within reads moves gives =
 
 module _ {H : Type 0} where
   -- what is read changes no context
-  pub read_may : (k : HeldConnection) (reader : ReaderValue) (s : Shared H) → MayStep none_over k s → MayStep none_over (read_held reader k) s
-  read_may k reader s m = grind arith
-
   read_tied : (k : HeldConnection) (reader : ReaderValue) (x : HookedContexts H) → IsTied none_over k x → IsTied none_over (read_held reader k) x
   read_tied k reader x t = record { are = t.are; only_by_drain = t.only_by_drain; stocked = t.stocked }
+
+  pub read_may : (k : HeldConnection) (reader : ReaderValue) (s : Shared H) → MayStep none_over k s → MayStep none_over (read_held reader k) s
+  read_may k reader s m = record { tied = read_tied k reader s.contexts m.tied; waits = m.waits; early = m.early }
 
   -- ---- what comes of it
 
@@ -85,7 +85,11 @@ module _ {H : Type 0} where
   -- a fault, after which it broke
   pub none_feeds : (bytes : List ℕ) (fault : StepFault) (k l m : HeldConnection) (a b d : Shared H) → hears k ≡ true → is_over k.reader.reading ≡ false → ReadsNone bytes fault k l a b
       → m ≡ broken_held l → LeavesRest [] l m b d → d.begun ≡ b.begun → Feeds bytes (Err fault) k m a d
-  none_feeds bytes fault k l m a b d on going (comes.unread f_is l_is b_is) m_is rest begun = grind arith
+  none_feeds bytes fault k l m a b d on going (comes.unread f_is l_is b_is) m_is rest begun = record {
+    jobs = [];
+    takes = unread on going (ap Err f_is) (m_is ∙ ap broken_held l_is) refl (begun ∙ ap (λ (x : Shared H). x.begun) b_is);
+    rest = subst (λ x. LeavesRest [] x m a d) l_is (subst (λ x. LeavesRest [] l m x d) b_is rest);
+  }
   none_feeds bytes fault k l m a b d on going (comes.read n request reader reads brings) m_is rest begun = by (coming_of a.plans request reader.reading) refl brings
     where
       by : (x : Option Coming) → coming_of a.plans request reader.reading ≡ x → BringsNone x fault (read_held reader k) l a b → Feeds bytes (Err fault) k m a d
@@ -106,4 +110,12 @@ module _ {H : Type 0} where
 
   pub hung_rest : (k l : HeldConnection) (s t : Shared H) (x : HookedContexts H) → x.standing ≡ told (HungUp k.number) s.contexts.standing → KeepsHooks s.contexts x
       → LeavesRest [] (hung_held k) l (record s { contexts = x }) t → LeavesRest [] k l s t
-  hung_rest k l s t x is keeps rest = grind (arith, nat_tests, others_then, others_same, hung_leaves)
+  hung_rest k l s t x is keeps rest =
+      let leaves = subst (LeavesContexts k.number s.contexts.standing) (sym is) (hung_leaves k.number s.contexts.standing) in
+      record {
+        plans_are = rest.plans_are;
+        moment_is = rest.moment_is;
+        jobs_are = rest.jobs_are;
+        waits = rest.waits;
+        others = others_then k.number s.contexts x t.contexts (others_same k.number s.contexts x leaves keeps.stocks_are) rest.others;
+      }

@@ -12,6 +12,7 @@ use crate::comings::Dealt;
 use crate::laws::loop_laws;
 use crate::limits::MOST_CLIENTS;
 use crate::moments::is_due;
+use crate::tokens::client_token;
 use branch_asking::{Edges, Network};
 use call_plan::Plans;
 use connect_codec::Outcome;
@@ -257,9 +258,14 @@ impl<H: ReplyHook + Drop, W: Wire + Drop> Clients<H, W> {
         self.moment
     }
 
-    /// The client in that place.
-    pub(crate) fn get(&self, place: usize) -> Option<&Client<W>> {
-        self.clients.get(place)
+    /// Watches the stream of the client in that place. False where it can't be.
+    pub(crate) fn watch<N: Network<W>>(&self, net: &mut N, place: usize) -> bool
+        ensures { N.told net.new ≡ N.told net.old }
+    {
+        match self.clients.get(place) {
+            Some(client) => net.watch(client.wire(), client_token(place), true),
+            None => false,
+        }
     }
 
     /// What is done with the stream of the client in that place.

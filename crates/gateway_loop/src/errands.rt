@@ -3,10 +3,8 @@ ghost use Rattle.std.specs.Prelude.{◌≡◌};
 
 use crate::comings::LookedUp;
 use crate::event_loop::EventLoop;
-use crate::hints::Errand;
-use crate::limits::{ATTEMPT, MOST_ADDRESSES, MOST_EXCHANGES};
-use crate::moments::is_due;
-use crate::tokens::{exchange_token, timer_id};
+use crate::limits::{MOST_ADDRESSES, MOST_EXCHANGES};
+use crate::tokens::exchange_token;
 use branch_asking::{Edges, Network, Progress};
 use branch_exchange::Loss;
 use gateway_core::{CallId, ReplyHook};
@@ -44,19 +42,17 @@ impl<H: ReplyHook + Drop, W: Wire + Drop> EventLoop<H, W> {
         ensures told { TellsLoop (N.told net.old) (N.told net.new) self.old self.new }
     {
         let Some(client) = self.client_of_new(place) else {
-            self.exchanges.lose(place, Some(Loss::NotWanted));
-            return self.drop_new(place);
+            return self.drop_new(place, Some(Loss::NotWanted));
         };
         let began = self.clients().moment();
-        if self.errands.insert(Errand::new(client, began)).is_err() {
-            self.exchanges.lose(place, None);
-            return self.drop_new(place);
+        if !self.roster.begin(client, began) {
+            return self.drop_new(place, None);
         }
-        if !self.enlist(client, place) {
+        let deadline = self.exchanges.deadline_of(place);
+        if !self.roster.enlist(client, place, deadline) {
             return self.lose(net, place, None);
         }
-        let asking = self.exchanges.asking(place);
-        if asking.is_none_or(|asking| asking.is_over()) {
+        if self.exchanges.is_over(place) {
             return self.end(net, place);
         }
         if self.exchanges.has_address(place) {
@@ -68,39 +64,18 @@ impl<H: ReplyHook + Drop, W: Wire + Drop> EventLoop<H, W> {
 
     /// The place of the client for whose call the new exchange in that place is, if its answer is wanted.
     fn client_of_new(&self, place: usize) -> Option<usize> {
-        let job = self.exchanges.asking(place)?.job();
-        if !job.wanted() {
-            return None;
-        }
-        let conn = job.call().conn;
-        let open = self.open.iter().find(|open| open.0 == conn)?;
-        Some(open.1)
+        let conn = self.exchanges.wanted_conn(place)?;
+        self.roster.client_of(conn)
     }
 
-    /// The new exchange in that place is over before anything else knows of it.
-    fn drop_new(&mut self, place: usize)
+    /// The new exchange in that place is lost by this before anything else knows of it; None for want of memory.
+    fn drop_new(&mut self, place: usize, loss: Option<Loss>)
         ensures goes { Goes self.old self.new }
         ensures told { self.new.side.told ≡ self.old.side.told }
     {
+        self.exchanges.lose(place, loss);
         let end = self.exchanges.finish(place);
         self.ends.keep(end, 0);
-    }
-
-    /// Gives the exchange in that place to its client, and sets its deadline. False for want of memory.
-    fn enlist(&mut self, client: usize, place: usize) -> bool
-        ensures goes { Goes self.old self.new }
-        ensures told { self.new.side.told ≡ self.old.side.told }
-    {
-        let deadline = self.deadline_of(place);
-        let Some(hints) = self.hints.get_mut(client) else {
-            return false;
-        };
-        hints.exchanges.push(place).is_ok() && self.set_until(place, deadline)
-    }
-
-    /// The deadline of the job that is asked for in that place.
-    pub(crate) fn deadline_of(&self, place: usize) -> Option<u64> {
-        self.exchanges.asking(place)?.job().deadline()
     }
 
     /// Has the address of the exchange in that place looked up.
@@ -108,31 +83,13 @@ impl<H: ReplyHook + Drop, W: Wire + Drop> EventLoop<H, W> {
         ensures goes { Goes self.old self.new }
         ensures told { TellsLoop (N.told net.old) (N.told net.new) self.old self.new }
     {
-        match self.wait_for_name(net, place) {
-            Ok(Some(number)) => {
-                if let Some(errand) = self.errands.get_mut(place) {
-                    errand.waits = Some(number);
-                }
-            }
-            Ok(None) => self.lose(net, place, Some(Loss::NoAddress)),
+        let Some(asking) = self.exchanges.asking(place) else {
+            return self.lose(net, place, Some(Loss::NoAddress));
+        };
+        match self.roster.wait(net, asking.job().address(), place) {
+            Ok(true) => {}
+            Ok(false) => self.lose(net, place, Some(Loss::NoAddress)),
             Err(_) => self.lose(net, place, None),
-        }
-    }
-
-    /// The exchange in that place waits for its name: its number among those who do. None where that can't be looked
-    /// up.
-    fn wait_for_name<N: Network<W>>(
-        &mut self,
-        net: &mut N,
-        place: usize,
-    ) -> Result<Option<usize>, AllocError>
-        ensures goes { Goes self.old self.new }
-        ensures told { self.new.side.told ≡ self.old.side.told }
-        ensures same { N.told net.new ≡ N.told net.old }
-    {
-        match self.exchanges.asking(place) {
-            Some(asking) => self.names.wait(net, asking.job().address(), place),
-            None => Ok(None),
         }
     }
 
@@ -145,7 +102,7 @@ impl<H: ReplyHook + Drop, W: Wire + Drop> EventLoop<H, W> {
             let Some(looked_up) = found.pop_front() else {
                 return;
             };
-            let Some(places) = self.names.found(looked_up.name.as_str()) else {
+            let Some(places) = self.roster.found(looked_up.name.as_str()) else {
                 continue;
             };
             for (_, place) in places.iter() {
@@ -163,9 +120,6 @@ impl<H: ReplyHook + Drop, W: Wire + Drop> EventLoop<H, W> {
             Ok(addresses) => {
                 self.exchanges
                     .find(place, looked_up.name.as_str(), addresses);
-                if let Some(errand) = self.errands.get_mut(place) {
-                    errand.waits = None;
-                }
                 self.try_next(net, place, Loss::NoAddress);
             }
             Err(_) => self.lose(net, place, None),
@@ -198,7 +152,7 @@ impl<H: ReplyHook + Drop, W: Wire + Drop> EventLoop<H, W> {
         ensures goes { Goes self.old self.new }
         ensures told { self.new.side.told ≡ self.old.side.told }
     {
-        let Some(errand) = self.errands.get_mut(place) else {
+        let Some(errand) = self.roster.errand(place) else {
             return Progress::Waits;
         };
         errand.edges = Edges::new();
@@ -210,27 +164,16 @@ impl<H: ReplyHook + Drop, W: Wire + Drop> EventLoop<H, W> {
         ensures goes { Goes self.old self.new }
         ensures told { TellsLoop (N.told net.old) (N.told net.new) self.old self.new }
     {
-        if !self.watch_exchange(net, place) {
+        if !self.exchanges.watch(net, place) {
             return self.lose(net, place, Some(Loss::NotWatched));
         }
-        if !self.begin_until(place) {
+        let until = self.exchanges.attempt_until(place);
+        let deadline = self.exchanges.deadline_of(place);
+        if !self.roster.begin_attempt(place, until, deadline) {
             return self.lose(net, place, None);
         }
         if more {
-            self.line_up_exchange(place);
-        }
-    }
-
-    /// Watches the stream of the exchange in that place. False where it can't be.
-    fn watch_exchange<N: Network<W>>(&self, net: &mut N, place: usize) -> bool
-        ensures { N.told net.new ≡ N.told net.old }
-    {
-        let Some(asking) = self.exchanges.asking(place) else {
-            return false;
-        };
-        match asking.attempt().wire() {
-            Some(wire) => net.watch(wire, exchange_token(place), !asking.attempt().is_sent()),
-            None => false,
+            self.line_up(exchange_token(place));
         }
     }
 
@@ -239,71 +182,10 @@ impl<H: ReplyHook + Drop, W: Wire + Drop> EventLoop<H, W> {
         ensures goes { Goes self.old self.new }
         ensures told { TellsLoop (N.told net.old) (N.told net.new) self.old self.new }
     {
-        if self.is_connected(place) || is_due(self.deadline_of(place), self.clients().moment()) {
+        if self.exchanges.is_connected(place) || self.exchanges.is_late(place) {
             self.lose(net, place, Some(Loss::Deadline));
         } else {
             self.try_next(net, place, Loss::Write(ErrorKind::TimedOut));
-        }
-    }
-
-    /// Whether the stream of the exchange in that place took a byte.
-    fn is_connected(&self, place: usize) -> bool {
-        match self.exchanges.asking(place) {
-            Some(asking) => asking.attempt().is_connected(),
-            None => false,
-        }
-    }
-
-    /// Sets how long the new stream of an exchange has: where another address follows, half of the time that is left,
-    /// or a second. False for want of memory.
-    fn begin_until(&mut self, place: usize) -> bool
-        ensures goes { Goes self.old self.new }
-        ensures told { self.new.side.told ≡ self.old.side.told }
-    {
-        let Some(asking) = self.exchanges.asking(place) else {
-            return self.end_attempt(place);
-        };
-        if asking.attempt().is_connected() || !asking.has_others() {
-            return self.end_attempt(place);
-        }
-        if let Some(errand) = self.errands.get_mut(place) {
-            errand.is_timed = true;
-        }
-        let moment = self.clients().moment();
-        let until = match self.deadline_of(place) {
-            // at least a millisecond from now
-            Some(deadline) => moment.saturating_add((deadline.saturating_sub(moment) / 2).max(1)),
-            None => moment.saturating_add(ATTEMPT),
-        };
-        self.set_until(place, Some(until))
-    }
-
-    /// The exchange in that place has all the time that its job has.
-    fn end_attempt(&mut self, place: usize) -> bool
-        ensures goes { Goes self.old self.new }
-        ensures told { self.new.side.told ≡ self.old.side.told }
-    {
-        let Some(errand) = self.errands.get_mut(place) else {
-            return true;
-        };
-        if !errand.is_timed {
-            return true;
-        }
-        errand.is_timed = false;
-        let deadline = self.deadline_of(place);
-        self.set_until(place, deadline)
-    }
-
-    /// Until when the exchange in that place goes on; None: as long as its backend lets it. False for want of memory.
-    pub(crate) fn set_until(&mut self, place: usize, until: Option<u64>) -> bool
-        ensures goes { Goes self.old self.new }
-        ensures told { self.new.side.told ≡ self.old.side.told }
-    {
-        let id = timer_id(exchange_token(place));
-        let _stopped = self.untils.stop(id);
-        match until {
-            Some(until) => self.untils.set(until, id).is_ok(),
-            None => true,
         }
     }
 
@@ -312,10 +194,9 @@ impl<H: ReplyHook + Drop, W: Wire + Drop> EventLoop<H, W> {
         ensures goes { Goes self.old self.new }
         ensures told { TellsLoop (N.told net.old) (N.told net.new) self.old self.new }
     {
-        let Some(errand) = self.errands.get_mut(place) else {
+        let Some(errand) = self.roster.errand(place) else {
             return;
         };
-        errand.is_in_line = false;
         let progress = self.exchanges.step(place, &mut errand.edges);
         self.take_step(net, place, progress);
     }
@@ -326,12 +207,13 @@ impl<H: ReplyHook + Drop, W: Wire + Drop> EventLoop<H, W> {
         ensures told { TellsLoop (N.told net.old) (N.told net.new) self.old self.new }
     {
         // once its stream took a byte, it has all the time that its job has
-        if self.is_connected(place) && !self.end_attempt(place) {
+        let deadline = self.exchanges.deadline_of(place);
+        if self.exchanges.is_connected(place) && !self.roster.end_attempt(place, deadline) {
             return self.lose(net, place, None);
         }
         match progress {
             Progress::Waits => {}
-            Progress::More => self.line_up_exchange(place),
+            Progress::More => self.line_up(exchange_token(place)),
             Progress::Refused(kind) => self.try_next(net, place, Loss::Write(kind)),
             Progress::Ended => self.end(net, place),
         }
@@ -368,15 +250,9 @@ impl<H: ReplyHook + Drop, W: Wire + Drop> EventLoop<H, W> {
         ensures goes { Goes self.old self.new }
         ensures told { self.new.side.told ≡ self.old.side.told }
     {
-        let errand = self.errands.try_remove(place)?;
-        if let Some(hints) = self.hints.get_mut(errand.client) {
-            hints.forget_exchange(place);
-        }
-        let _stopped = self.untils.stop(timer_id(exchange_token(place)));
+        let errand = self.roster.forget_exchange(place)?;
         let end = self.exchanges.finish(place)?;
-        if let Some(number) = errand.waits {
-            self.names.leave(end.job.address(), number);
-        }
+        self.roster.leave(end.job.address(), errand.waits);
         let took = self.clients().moment().saturating_sub(errand.began);
         let call = end.job.call();
         self.ends.keep(Some(end), took);
@@ -390,25 +266,14 @@ impl<H: ReplyHook + Drop, W: Wire + Drop> EventLoop<H, W> {
     {
         let mut number = 0usize;
         for _exchange in 0..MOST_EXCHANGES {
-            let Some(hints) = self.hints.get(client) else {
+            let Some(place) = self.roster.exchange_of(client, number) else {
                 return;
             };
-            let Some(place) = hints.exchanges.get(number) else {
-                return;
-            };
-            let place = *place;
-            if self.is_wanted_at(place) {
+            if self.exchanges.is_wanted(place) {
                 number = number.saturating_add(1);
             } else {
                 self.give_up(place);
             }
-        }
-    }
-
-    fn is_wanted_at(&self, place: usize) -> bool {
-        match self.exchanges.asking(place) {
-            Some(asking) => self.clients().core().is_wanted(&asking.job().call()),
-            None => false,
         }
     }
 
@@ -418,8 +283,7 @@ impl<H: ReplyHook + Drop, W: Wire + Drop> EventLoop<H, W> {
         ensures told { self.new.side.told ≡ self.old.side.told }
     {
         // where its own time or its call's ended the call, that is why
-        let is_late = is_due(self.deadline_of(place), self.clients().moment());
-        let loss = if is_late {
+        let loss = if self.exchanges.is_late(place) {
             Loss::Deadline
         } else {
             Loss::NotWanted

@@ -9,16 +9,11 @@ ghost use Rattle.gateway_loop.specs.Loop.{StartsLoop};
 use crate::clients::Clients;
 use crate::ends::Ends;
 use crate::exchanges::Exchanges;
-use crate::hints::{Errand, Hints};
-use crate::limits::{MOST_CLIENTS, MOST_EXCHANGES, MOST_TIMERS};
-use crate::names::Names;
+use crate::roster::Roster;
 use call_plan::Plans;
-use gateway_core::{ConnId, ReplyHook, Tally};
-use slab::Slab;
+use gateway_core::{ReplyHook, Tally};
 use std::alloc::{AllocError, Global};
-use std::collections::VecDeque;
 use std::marker::Model;
-use timer_heap::Timers;
 use wires::Wire;
 
 /// How a loop stands.
@@ -41,19 +36,7 @@ pub struct LoopStanding {
 pub struct EventLoop<H, W: Wire> {
     pub(crate) alloc: Global,
     pub(crate) exchanges: Exchanges<H, W>,
-    // what else is known of the clients, by their places
-    pub(crate) hints: Slab<Hints>,
-    // the connections that are open, with the places of their clients
-    pub(crate) open: Vec<(ConnId, usize)>,
-    // what else is known of the exchanges, by their places
-    pub(crate) errands: Slab<Errand>,
-    pub(crate) names: Names,
-    // by their tokens, until when an exchange goes on, and a client lingers
-    pub(crate) untils: Timers,
-    // the tokens of those that are to be served
-    pub(crate) line: VecDeque<usize>,
-    // the places of clients for whom something may be there
-    pub(crate) noted: VecDeque<usize>,
+    pub(crate) roster: Roster,
     pub(crate) ends: Ends,
     // something is left to be done at once
     pub(crate) again: bool,
@@ -76,14 +59,7 @@ impl<H: ReplyHook + Drop, W: Wire + Drop> EventLoop<H, W> {
     {
         Ok(EventLoop {
             alloc,
-            hints: Slab::with_capacity(alloc, MOST_CLIENTS)?,
-            open: Vec::with_capacity(alloc, MOST_CLIENTS)?,
-            errands: Slab::with_capacity(alloc, MOST_EXCHANGES)?,
-            names: Names::new(alloc),
-            untils: Timers::new(alloc),
-            // a token may be left behind whose place changed hands
-            line: VecDeque::with_capacity(alloc, 2 * MOST_TIMERS)?,
-            noted: VecDeque::with_capacity(alloc, 2 * MOST_CLIENTS)?,
+            roster: Roster::new(alloc)?,
             ends: Ends::new(alloc)?,
             again: false,
             exchanges: Exchanges::new(alloc, plans)?,
@@ -97,7 +73,7 @@ impl<H: ReplyHook + Drop, W: Wire + Drop> EventLoop<H, W> {
             return Some(0);
         }
         let deadline = self.clients().core().next_deadline();
-        deadline.into_iter().chain(self.untils.next()).min()
+        deadline.into_iter().chain(self.roster.next_until()).min()
     }
 
     /// How the loop stands.

@@ -8,7 +8,9 @@ ghost use Rattle.loop_model.specs.Whole.{IsExplainedLoop, draining_loop};
 use crate::client::{Heard, Written};
 use crate::clients::Clients;
 use crate::comings::Dealt;
-use crate::limits::MOST_EXCHANGES;
+use crate::limits::{ATTEMPT, MOST_EXCHANGES};
+use crate::moments::is_due;
+use crate::tokens::exchange_token;
 use branch_asking::{Asking, BranchEnd, Edges, Network, Progress};
 use branch_exchange::Loss;
 use call_plan::Plans;
@@ -152,6 +154,73 @@ impl<H: ReplyHook + Drop, W: Wire + Drop> Exchanges<H, W> {
         self.asking.get(place)
     }
 
+    /// The connection of the call for which the exchange in that place is, if its answer is wanted.
+    pub(crate) fn wanted_conn(&self, place: usize) -> Option<ConnId> {
+        let job = self.asking.get(place)?.job();
+        if job.wanted() {
+            Some(job.call().conn)
+        } else {
+            None
+        }
+    }
+
+    /// Whether somebody waits for the exchange in that place.
+    pub(crate) fn is_wanted(&self, place: usize) -> bool {
+        match self.asking.get(place) {
+            Some(asking) => self.clients.core().is_wanted(&asking.job().call()),
+            None => false,
+        }
+    }
+
+    /// Whether there is no exchange in that place any more, or it is over.
+    pub(crate) fn is_over(&self, place: usize) -> bool {
+        match self.asking.get(place) {
+            Some(asking) => asking.is_over(),
+            None => true,
+        }
+    }
+
+    /// Whether the stream of the exchange in that place took a byte.
+    pub(crate) fn is_connected(&self, place: usize) -> bool {
+        match self.asking.get(place) {
+            Some(asking) => asking.attempt().is_connected(),
+            None => false,
+        }
+    }
+
+    /// The deadline of the job that is asked for in that place.
+    pub(crate) fn deadline_of(&self, place: usize) -> Option<u64> {
+        self.asking.get(place)?.job().deadline()
+    }
+
+    /// Whether that deadline has come.
+    pub(crate) fn is_late(&self, place: usize) -> bool {
+        is_due(self.deadline_of(place), self.clients.moment())
+    }
+
+    /// Until when the new stream of the exchange in that place has to take a byte. None where no other address follows.
+    pub(crate) fn attempt_until(&self, place: usize) -> Option<u64> {
+        let asking = self.asking.get(place)?;
+        if asking.attempt().is_connected() || !asking.has_others() {
+            return None;
+        }
+        let moment = self.clients.moment();
+        Some(moment.saturating_add(attempt_time(asking.job().deadline(), moment)))
+    }
+
+    /// Watches the stream of the exchange in that place. False where it can't be.
+    pub(crate) fn watch<N: Network<W>>(&self, net: &mut N, place: usize) -> bool
+        ensures { N.told net.new ≡ N.told net.old }
+    {
+        let Some(asking) = self.asking.get(place) else {
+            return false;
+        };
+        match asking.attempt().wire() {
+            Some(wire) => net.watch(wire, exchange_token(place), !asking.attempt().is_sent()),
+            None => false,
+        }
+    }
+
     /// Takes the next job, which is asked for from now on: its place. None if none waits.
     pub(crate) fn begin(&mut self) -> Option<usize>
         ensures goes { Goes self.old self.new }
@@ -259,5 +328,14 @@ impl<H: ReplyHook + Drop, W: Wire + Drop> Exchanges<H, W> {
             status,
             took: 0,
         })
+    }
+}
+
+/// How long an address has to accept that another follows, in milliseconds: half of the time that is left, or a second.
+fn attempt_time(deadline: Option<u64>, moment: u64) -> u64 {
+    match deadline {
+        // at least a millisecond
+        Some(deadline) => (deadline.saturating_sub(moment) / 2).max(1),
+        None => ATTEMPT,
     }
 }

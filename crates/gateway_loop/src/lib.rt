@@ -14,6 +14,7 @@ mod laws;
 mod limits;
 mod moments;
 mod names;
+mod roster;
 mod serving;
 mod tokens;
 

@@ -34,7 +34,9 @@ impl<H: ReplyHook + Drop, W: Wire + Drop> EventLoop<H, W> {
         self.admit_all(net, &mut comings.streams);
         self.take_found(net, &mut comings.found);
         for ready in comings.ready.iter() {
-            self.note_ready(*ready);
+            if !self.roster.note_ready(*ready) {
+                self.starve(ready.token);
+            }
         }
         comings.ready.clear();
     }
@@ -46,7 +48,8 @@ impl<H: ReplyHook + Drop, W: Wire + Drop> EventLoop<H, W> {
     {
         let mut left = MOST_STARTS;
         for _round in 0..MOST_STARTS {
-            let started = self.start_and_tell(net, left);
+            let started = self.start_jobs(net, left);
+            self.ends.tell(net);
             left = left.saturating_sub(started);
             let has_written = self.write_noted(net);
             if started == 0 && !has_written {
@@ -55,17 +58,7 @@ impl<H: ReplyHook + Drop, W: Wire + Drop> EventLoop<H, W> {
         }
         let has_jobs = self.clients().core().waiting_jobs() > 0
             && self.exchanges.len() < MOST_EXCHANGES;
-        self.again = has_jobs || !self.line.is_empty() || !self.noted.is_empty();
-    }
-
-    /// Begins to ask for jobs, at most so many, and tells what came of others: how many it began.
-    fn start_and_tell<N: Network<W>>(&mut self, net: &mut N, most: u32) -> u32
-        ensures goes { Goes self.old self.new }
-        ensures told { TellsLoop (N.told net.old) (N.told net.new) self.old self.new }
-    {
-        let started = self.start_jobs(net, most);
-        self.ends.tell(net);
-        started
+        self.again = has_jobs || self.roster.has_more();
     }
 
     /// Hands in the present moment, unless that would change nothing: so calls that are due end before anything that
@@ -88,8 +81,8 @@ impl<H: ReplyHook + Drop, W: Wire + Drop> EventLoop<H, W> {
         self.exchanges.drain();
         self.ends.drain();
         self.look_at_all();
-        for index in 0..self.open.len() {
-            let Some(open) = self.open.get(index) else {
+        for index in 0..self.roster.open().len() {
+            let Some(open) = self.roster.open().get(index) else {
                 break;
             };
             let place = open.1;
@@ -106,8 +99,8 @@ impl<H: ReplyHook + Drop, W: Wire + Drop> EventLoop<H, W> {
         // a call that ended behind an undecided one shows by its exchanges' time limits; but a branch that waits for a
         // place has none
         let has_waiting = self.clients().core().waiting_jobs() > 0;
-        for index in 0..self.open.len() {
-            let Some(open) = self.open.get(index) else {
+        for index in 0..self.roster.open().len() {
+            let Some(open) = self.roster.open().get(index) else {
                 return;
             };
             let (conn, place) = *open;

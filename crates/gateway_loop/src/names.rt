@@ -41,14 +41,12 @@ impl Names {
                 return Ok(Some(known.places.insert(place)?));
             }
         }
-        let mut places = Slab::new(self.alloc);
-        let number = places.insert(place)?;
-        let name = String::from_str(self.alloc, name)?;
+        let (known, number) = Name::new(self.alloc, name, place)?;
         self.names.reserve(1)?;
-        if !net.look_up(name.as_str()) {
+        if !net.look_up(name) {
             return Ok(None);
         }
-        self.names.push(Name { name, places })?;
+        self.names.push(known)?;
         Ok(Some(number))
     }
 
@@ -75,5 +73,15 @@ impl Names {
         self.names
             .iter()
             .position(|known| known.name.as_str() == name)
+    }
+}
+
+impl Name {
+    /// The name for which the exchange in that place waits, and its number among those that do.
+    fn new(alloc: Global, name: &str, place: usize) -> Result<(Name, usize), AllocError> {
+        let mut places = Slab::new(alloc);
+        let number = places.insert(place)?;
+        let name = String::from_str(alloc, name)?;
+        Ok((Name { name, places }, number))
     }
 }

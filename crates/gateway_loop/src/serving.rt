@@ -5,13 +5,11 @@ ghost use Rattle.std.specs.Prelude.{◌≡◌};
 use crate::client::{Heard, Phase, Written};
 use crate::comings::Dealt;
 use crate::event_loop::EventLoop;
-use crate::hints::Hints;
 use crate::limits::{LINGER, MOST_LINGERING, MOST_TIMERS};
-use crate::tokens::{Owner, client_token, exchange_token, owner_of, timer_id};
-use branch_asking::{Network, Ready};
+use crate::tokens::{Owner, client_token, owner_of};
+use branch_asking::Network;
 use gateway_core::ReplyHook;
 use std::collections::VecDeque;
-use std::mem;
 use wires::Wire;
 
 #[tactic(auto, using(crate::proofs::AskLemmas::going))]
@@ -41,79 +39,19 @@ impl<H: ReplyHook + Drop, W: Wire + Drop> EventLoop<H, W> {
         let Some((conn, place)) = self.exchanges.open(dealt) else {
             return net.tell_unserved();
         };
-        let is_seated = self.open.push((conn, place)).is_ok()
-            && self.hints.insert(Hints::new(self.alloc)).is_ok()
-            && self.watch_client(net, place);
-        if !is_seated {
+        if !self.roster.admit(conn, place) || !self.clients().watch(net, place) {
             self.drop_client(place);
             net.tell_unserved();
         }
     }
 
-    /// Watches the stream of the client in that place. False where it can't be.
-    fn watch_client<N: Network<W>>(&self, net: &mut N, place: usize) -> bool
-        ensures { N.told net.new ≡ N.told net.old }
-    {
-        match self.clients().get(place) {
-            Some(client) => net.watch(client.wire(), client_token(place), true),
-            None => false,
-        }
-    }
-
-    /// Notes what became possible, and puts those whom it concerns into the line. A token that names nobody changes
-    /// nothing.
-    pub(crate) fn note_ready(&mut self, ready: Ready)
+    /// Whom the token names is to be served.
+    pub(crate) fn line_up(&mut self, token: usize)
         ensures goes { Goes self.old self.new }
         ensures told { self.new.side.told ≡ self.old.side.told }
     {
-        match owner_of(ready.token) {
-            Owner::Client(place) => {
-                if let Some(hints) = self.hints.get_mut(place) {
-                    hints.edges.note(ready);
-                    self.line_up_client(place);
-                }
-            }
-            Owner::Exchange(place) => {
-                if let Some(errand) = self.errands.get_mut(place) {
-                    errand.edges.note(ready);
-                    self.line_up_exchange(place);
-                }
-            }
-        }
-    }
-
-    /// The client in that place is to be served.
-    pub(crate) fn line_up_client(&mut self, place: usize)
-        ensures goes { Goes self.old self.new }
-        ensures told { self.new.side.told ≡ self.old.side.told }
-    {
-        let Some(hints) = self.hints.get_mut(place) else {
-            return;
-        };
-        if hints.is_in_line {
-            return;
-        }
-        hints.is_in_line = true;
-        if self.line.push_back(client_token(place)).is_err() {
-            // there is no memory to serve it: it would hang
-            self.drop_client(place);
-        }
-    }
-
-    /// The exchange in that place is to be served.
-    pub(crate) fn line_up_exchange(&mut self, place: usize)
-        ensures goes { Goes self.old self.new }
-        ensures told { self.new.side.told ≡ self.old.side.told }
-    {
-        let Some(errand) = self.errands.get_mut(place) else {
-            return;
-        };
-        if errand.is_in_line {
-            return;
-        }
-        errand.is_in_line = true;
-        if self.line.push_back(exchange_token(place)).is_err() {
-            self.starve_exchange(place);
+        if !self.roster.line_up(token) {
+            self.starve(token);
         }
     }
 
@@ -122,15 +60,19 @@ impl<H: ReplyHook + Drop, W: Wire + Drop> EventLoop<H, W> {
         ensures goes { Goes self.old self.new }
         ensures told { self.new.side.told ≡ self.old.side.told }
     {
-        let Some(hints) = self.hints.get_mut(place) else {
-            return;
-        };
-        if hints.is_noted {
-            return;
-        }
-        hints.is_noted = true;
-        if self.noted.push_back(place).is_err() {
+        if !self.roster.note(place) {
             self.drop_client(place);
+        }
+    }
+
+    /// There is no memory to serve whom the token names: it would hang.
+    pub(crate) fn starve(&mut self, token: usize)
+        ensures goes { Goes self.old self.new }
+        ensures told { self.new.side.told ≡ self.old.side.told }
+    {
+        match owner_of(token) {
+            Owner::Client(place) => self.drop_client(place),
+            Owner::Exchange(place) => self.starve_exchange(place),
         }
     }
 
@@ -139,11 +81,11 @@ impl<H: ReplyHook + Drop, W: Wire + Drop> EventLoop<H, W> {
         ensures goes { Goes self.old self.new }
         ensures told { TellsLoop (N.told net.old) (N.told net.new) self.old self.new }
     {
-        for _token in 0..self.line.len() {
-            let Some(token) = self.line.pop_front() else {
+        for _token in 0..self.roster.line_len() {
+            let Some(owner) = self.roster.next_in_line() else {
                 return;
             };
-            match owner_of(token) {
+            match owner {
                 Owner::Client(place) => self.serve_client(net, place),
                 Owner::Exchange(place) => self.serve_exchange(net, place),
             }
@@ -157,37 +99,18 @@ impl<H: ReplyHook + Drop, W: Wire + Drop> EventLoop<H, W> {
     {
         // before what it brings
         self.tick(net);
-        let Some(hints) = self.hints.get_mut(place) else {
-            return;
-        };
-        hints.is_in_line = false;
         let heard = self.read_client(place);
         if heard == Heard::End && self.clients().phase(place) == Some(Phase::Lingers) {
-            let _stopped = self.untils.stop(timer_id(client_token(place)));
             return self.forget_client(place);
         }
-        self.note_half_read(place, heard);
         if matches!(heard, Heard::Broke | Heard::End) {
             self.give_up_unwanted(place);
         }
         self.note(place);
     }
 
-    /// Notes of the client in that place whether a piece that it brought made no request.
-    fn note_half_read(&mut self, place: usize, heard: Heard)
-        ensures goes { Goes self.old self.new }
-        ensures told { self.new.side.told ≡ self.old.side.told }
-    {
-        if heard != Heard::Piece {
-            return;
-        }
-        let makes_none = self.clients().is_owed_nothing(place);
-        if let Some(hints) = self.hints.get_mut(place) {
-            hints.is_half_read = makes_none;
-        }
-    }
-
-    /// Reads the stream of the client in that place, if it is to be read.
+    /// Reads the stream of the client in that place, if it is to be read. Notes whether a piece that it brought made no
+    /// request.
     fn read_client(&mut self, place: usize) -> Heard
         ensures goes { Goes self.old self.new }
         ensures told { self.new.side.told ≡ self.old.side.told }
@@ -195,16 +118,20 @@ impl<H: ReplyHook + Drop, W: Wire + Drop> EventLoop<H, W> {
         if !self.is_to_be_read(place) {
             return Heard::Nothing;
         }
-        match self.hints.get_mut(place) {
-            Some(hints) => self.exchanges.read(place, &mut hints.edges),
-            None => Heard::Nothing,
+        let Some(hints) = self.roster.client(place) else {
+            return Heard::Nothing;
+        };
+        let heard = self.exchanges.read(place, &mut hints.edges);
+        if heard == Heard::Piece {
+            hints.is_half_read = self.exchanges.clients().is_owed_nothing(place);
         }
+        heard
     }
 
     /// Whether the client in that place is to be read: its stream may have bytes, and nothing waits to be written to
     /// it.
     fn is_to_be_read(&self, place: usize) -> bool {
-        self.may_read(place) && self.clients().is_to_be_read(place)
+        self.roster.may_read(place) && self.clients().is_to_be_read(place)
     }
 
     /// Writes to the clients for whom something may be there. Answers whether there were any.
@@ -212,9 +139,9 @@ impl<H: ReplyHook + Drop, W: Wire + Drop> EventLoop<H, W> {
         ensures goes { Goes self.old self.new }
         ensures told { TellsLoop (N.told net.old) (N.told net.new) self.old self.new }
     {
-        let count = self.noted.len();
+        let count = self.roster.noted_len();
         for _client in 0..count {
-            if let Some(place) = self.noted.pop_front() {
+            if let Some(place) = self.roster.next_noted() {
                 self.write_client(net, place);
             }
         }
@@ -226,13 +153,9 @@ impl<H: ReplyHook + Drop, W: Wire + Drop> EventLoop<H, W> {
         ensures goes { Goes self.old self.new }
         ensures told { TellsLoop (N.told net.old) (N.told net.new) self.old self.new }
     {
-        let Some(hints) = self.hints.get_mut(place) else {
-            return;
-        };
-        hints.is_noted = false;
         if self.clients().phase(place) == Some(Phase::Lingers) {
-            if self.may_read(place) {
-                self.line_up_client(place);
+            if self.roster.may_read(place) {
+                self.line_up(client_token(place));
             }
             return;
         }
@@ -242,7 +165,7 @@ impl<H: ReplyHook + Drop, W: Wire + Drop> EventLoop<H, W> {
         } else if self.clients().is_to_leave(place) {
             self.leave(place);
         } else if written == Written::More || self.is_to_be_read(place) {
-            self.line_up_client(place);
+            self.line_up(client_token(place));
         }
     }
 
@@ -251,7 +174,7 @@ impl<H: ReplyHook + Drop, W: Wire + Drop> EventLoop<H, W> {
         ensures goes { Goes self.old self.new }
         ensures told { TellsLoop (N.told net.old) (N.told net.new) self.old self.new }
     {
-        match self.hints.get_mut(place) {
+        match self.roster.client(place) {
             Some(hints) => self.exchanges.write(net, place, &mut hints.edges),
             None => Written::All,
         }
@@ -263,7 +186,7 @@ impl<H: ReplyHook + Drop, W: Wire + Drop> EventLoop<H, W> {
         ensures continues { ContinuesLoop self.old self.new }
         ensures told { self.new.side.told ≡ self.old.side.told }
     {
-        for _open in 0..self.open.len() {
+        for _open in 0..self.roster.open().len() {
             let Some(place) = self.idle_place() else {
                 return;
             };
@@ -273,9 +196,8 @@ impl<H: ReplyHook + Drop, W: Wire + Drop> EventLoop<H, W> {
 
     /// The place of the first client to whom nothing is owed.
     fn idle_place(&self) -> Option<usize> {
-        let open = self.open.iter().find(|open| {
-            let hints = self.hints.get(open.1);
-            self.clients().is_idle(open.1) && !hints.is_some_and(|hints| hints.is_half_read)
+        let open = self.roster.open().iter().find(|open| {
+            self.clients().is_idle(open.1) && !self.roster.is_half_read(open.1)
         })?;
         Some(open.1)
     }
@@ -291,17 +213,12 @@ impl<H: ReplyHook + Drop, W: Wire + Drop> EventLoop<H, W> {
         self.exchanges.leave(place);
         self.close(place);
         let until = self.clients().moment().saturating_add(LINGER);
-        if !lingers
-            || self
-                .untils
-                .set(until, timer_id(client_token(place)))
-                .is_err()
-        {
+        if !lingers || !self.roster.linger(place, until) {
             self.forget_client(place);
             return;
         }
-        if self.may_read(place) {
-            self.line_up_client(place);
+        if self.roster.may_read(place) {
+            self.line_up(client_token(place));
         }
     }
 
@@ -312,7 +229,7 @@ impl<H: ReplyHook + Drop, W: Wire + Drop> EventLoop<H, W> {
     {
         self.exchanges.let_go(place);
         self.close(place);
-        let _hints = self.hints.try_remove(place);
+        self.roster.forget_client(place);
     }
 
     /// The connection of the client in that place was closed: its exchanges are given up.
@@ -320,12 +237,7 @@ impl<H: ReplyHook + Drop, W: Wire + Drop> EventLoop<H, W> {
         ensures goes { Goes self.old self.new }
         ensures told { self.new.side.told ≡ self.old.side.told }
     {
-        self.open.retain(|open| open.1 != place);
-        let Some(hints) = self.hints.get_mut(place) else {
-            return;
-        };
-        let exchanges = mem::replace(&mut hints.exchanges, Vec::new(self.alloc));
-        for exchange in exchanges {
+        for exchange in self.roster.close(place) {
             self.give_up(exchange);
         }
     }
@@ -336,15 +248,7 @@ impl<H: ReplyHook + Drop, W: Wire + Drop> EventLoop<H, W> {
         ensures told { self.new.side.told ≡ self.old.side.told }
     {
         self.exchanges.let_go(place);
-        let _hints = self.hints.try_remove(place);
-    }
-
-    /// Whether the stream of the client in that place may have bytes.
-    pub(crate) fn may_read(&self, place: usize) -> bool {
-        match self.hints.get(place) {
-            Some(hints) => hints.edges.may_read,
-            None => false,
-        }
+        self.roster.forget_client(place);
     }
 
     /// Ends the exchanges whose time is over, and lets go of those that lingered long enough.
@@ -354,10 +258,10 @@ impl<H: ReplyHook + Drop, W: Wire + Drop> EventLoop<H, W> {
     {
         for _timer in 0..MOST_TIMERS {
             let moment = self.clients().moment();
-            let Some((_until, id)) = self.untils.pop_due(moment) else {
+            let Some(owner) = self.roster.pop_due(moment) else {
                 return;
             };
-            match owner_of(usize::try_from(id).unwrap_or(usize::MAX)) {
+            match owner {
                 Owner::Client(place) => self.forget_client(place),
                 Owner::Exchange(place) => self.time_out(net, place),
             }

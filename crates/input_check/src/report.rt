@@ -153,9 +153,10 @@ fn fine_plans<'n>(
     plans: &Plans,
     text: &[u8],
 ) -> Result<Found<'n>, AllocError> {
+    let read = read_value(alloc, text)?;
     let mut found = Found::new(alloc, name);
     push_number(&mut found.said, plans.len(), " plan\n", " plans\n");
-    if let Ok(value) = read_value(alloc, text)? {
+    if let Ok(value) = read {
         push_served(&mut found.said, plans, elements_of(&value));
         push_repeated_key(alloc, &mut found.warnings, text);
         push_plan_warnings(alloc, &mut found.warnings, elements_of(&value));
@@ -164,8 +165,9 @@ fn fine_plans<'n>(
 }
 
 fn refused_plans<'n>(alloc: Global, name: &'n str, text: &[u8]) -> Result<Found<'n>, AllocError> {
+    let read = read_value(alloc, text)?;
     let mut found = Found::new(alloc, name);
-    match read_value(alloc, text)? {
+    match read {
         Ok(value) => {
             push_fault(&mut found.said, plans_fault(&value));
             push_repeated_key(alloc, &mut found.warnings, text);
@@ -184,10 +186,11 @@ fn fine_script<'n>(
     events: usize,
     text: &[u8],
 ) -> Result<Found<'n>, AllocError> {
+    let read = read_value(alloc, text)?;
     let mut found = Found::new(alloc, name);
     push_number(&mut found.said, plans.len(), " plan, ", " plans, ");
     push_number(&mut found.said, events, " event\n", " events\n");
-    if let Ok(script) = read_value(alloc, text)? {
+    if let Ok(script) = read {
         push_served(&mut found.said, plans, plans_of(&script));
         push_repeated_key(alloc, &mut found.warnings, text);
         push_script_warnings(alloc, &mut found.warnings, &script);
@@ -196,8 +199,9 @@ fn fine_script<'n>(
 }
 
 fn refused_script<'n>(alloc: Global, name: &'n str, text: &[u8]) -> Result<Found<'n>, AllocError> {
+    let read = read_value(alloc, text)?;
     let mut found = Found::new(alloc, name);
-    match read_value(alloc, text)? {
+    match read {
         Ok(script) => {
             push_fault(&mut found.said, script_fault(&script));
             push_repeated_key(alloc, &mut found.warnings, text);

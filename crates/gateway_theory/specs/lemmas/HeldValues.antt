@@ -63,7 +63,12 @@ arrives_gone moment drained crowded id x is = grind (arith, nat_tests)
 
 call_entered : (id : CallId) (s : Step) (live : Option Live) (calls : List KeptValue) → s.call.live ≡ live → (s.call.live ≡ None → s.call ≡ gone) → IsFound id calls None → (other : CallId)
     → call_at other (calls ++ kept_now id s live) ≡ (if is_call id other then s.call else call_at other calls)
-call_entered id s live calls is each fact other = grind (arith, nat_tests, call_added, append-nil, same_call, call_missing)
+call_entered id s (Some l) calls is dead new other = call_added (record { id = id; call = s.call }) other calls new
+call_entered id s None calls is dead new other = ap (call_at other) (append-nil calls) ∙ by (is_call id other) refl
+  where
+    by : (b : Bool) → is_call id other ≡ b → call_at other calls ≡ (if is_call id other then s.call else call_at other calls)
+    by true it = rw it (ap (λ n. call_at n calls) (sym (same_call id other it)) ∙ call_missing id calls new ∙ sym (dead is))
+    by false it = rw it refl
 
 module _ (n : Now) (k : HeldConnection) where
   -- something comes on one that is not closed

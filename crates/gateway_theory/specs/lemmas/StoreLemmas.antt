@@ -1,6 +1,6 @@
 -- Calls in a list, by their ids.
 use Rattle.std.specs.Prelude.{◌≡◌, ◌+◌, ◌<◌, ◌∷◌, ◌++◌, ◌≤◌, if◌then◌else◌}
-use Rattle.gateway_theory.specs.lemmas.Names.{ℕ, zero, suc, Bool, false, List, [], map, length, filter, Some, refl, sym, ap, ◌∙◌, arith, ⊎_elim, true, Option, None, Ok, Err, nat_tests, slice_set, slice_index_or, OnErr, OnOk, is_err, is_none, is_some, not, option_map_or, option_or, cases_Bool, eq-eqb, cond_both, get_or-set_same, get_or-set_other, length-set, length-map, get_or_default, length-append, AreApart, KeptValue, call_at, gone, is_call, kept_at, no_call, IsFound, CallId, ReplyValue, count_by, filter-append, length-filter, ReplyEntry, slot_at}
+use Rattle.gateway_theory.specs.lemmas.Names.{ℕ, zero, suc, Bool, false, List, [], map, length, filter, Some, refl, sym, ap, ◌∙◌, arith, ⊎_elim, true, Option, None, Ok, Err, nat_tests, slice_set, slice_index_or, OnErr, OnOk, is_err, is_none, is_some, not, option_map_or, option_or, cases_Bool, eq-eqb, cond_both, get_or-set_same, get_or-set_other, length-set, length-map, get_or_default, length-append, AreApart, KeptValue, call_at, gone, is_call, kept_at, no_call, IsFound, CallId, CallState, ReplyValue, count_by, filter-append, length-filter, ReplyEntry, slot_at}
 use Rattle.std.proofs.Common.{Result}
 use Rattle.std.proofs.lemmas.List.Kept.{AllPairs-filter}
 use Rattle.gateway_theory.specs.lemmas.LimitLemmas.{same_call}
@@ -120,7 +120,26 @@ call_added k id (x ∷ calls) f = ⊎_elim
 
 pub call_without : (id other : CallId) (calls : List KeptValue) → call_at other (filter (λ k. not (is_call k.id id)) calls) ≡ (if is_call id other then gone else call_at other calls)
 call_without id other [] = cond_both (is_call id other) gone gone (λ c. gone ≡ c) (λ _. refl) (λ _. refl)
-call_without id other (x ∷ calls) = grind (arith, call_without id other calls)
+call_without id other (x ∷ calls) = ⊎_elim
+    (λ (its : is_call x.id id ≡ true).
+    rw its (call_without id other calls ∙ by_it its (is_call id other) refl))
+    (λ (ne : is_call x.id id ≡ false). rw ne (⊎_elim
+    (λ (here : is_call x.id other ≡ true).
+    let apart : is_call id other ≡ false = ⊎_elim
+    (λ (it : is_call id other ≡ true).
+    let same : x.id ≡ id = same_call x.id other here ∙ sym (same_call id other it) in
+    let clash : true ≡ false = sym (call_itself id) ∙ ap (λ n. is_call n id) (sym same) ∙ ne in
+    absurd (cc))
+    (λ (none : is_call id other ≡ false). none) (cases_Bool (is_call id other)) in
+    rw (here, apart) refl)
+    (λ (there : is_call x.id other ≡ false). rw there (call_without id other calls))
+    (cases_Bool (is_call x.id other))))
+    (cases_Bool (is_call x.id id))
+  where
+    by_it : is_call x.id id ≡ true → (b : Bool) → is_call id other ≡ b
+        → (if is_call id other then gone else call_at other calls) ≡ (if is_call id other then gone else (if is_call x.id other then x.call else call_at other calls))
+    by_it its true b_is = rw b_is refl
+    by_it its false b_is = ap (λ (c : CallState). if is_call id other then gone else c) (sym (ap (λ b. if b then x.call else call_at other calls) (ap (λ n. is_call n other) (same_call x.id id its) ∙ b_is)))
 
 -- ---- slots
 

@@ -1,5 +1,5 @@
-use Rattle.gateway_connection.specs.lemmas.Names.{◌≡◌, arith, ap, sym, ◌∙◌, length, min, subst, Some, arc_value, PlanRecord, IsKept, HasGone, live_value, ArrivedCall, deadline_from, map, range_with_len}
-use Rattle.gateway_connection.proofs.GroupLemmas.{begun_kept, is_begun}
+use Rattle.gateway_connection.specs.lemmas.Names.{◌≡◌, arith, ap, sym, ◌∙◌, length, min, subst, Some, arc_value, PlanRecord, IsKept, HasGone, live_value, ArrivedCall, deadline_from, map, range_with_len, [], None, refl}
+use Rattle.gateway_connection.proofs.GroupLemmas.{begun_kept, is_begun, limit_set}
 use Rattle.gateway_connection.proofs.ResultLemmas.{none_ok}
 use Rattle.gateway_connection.proofs.begin.begin.Goals as goal
 
@@ -48,6 +48,12 @@ invariant_of-live c =
       omega (arith, c.in_ok-events.ensures.capacity, ap length c.branches-count.ensures.branches, view),
       omega (arith, c.in_ok-deadlines.ensures.room, ap (λ (p : PlanRecord). length p.branches) c.deref-3.ensures),
     )
+
+pub give-requires : goal.give-requires
+give-requires c =
+    let plan = c.in_ok-plan.ensures ∙ ap (λ (x : ArrivedCall). x.plan) (c.asked.view_is ∙ sym c.in_ok-asked.ensures.ok) in
+    limit_set c.args.id (arc_value c.in_ok-asked.asked) (record { active = 0; limit = 4294967295; queue = []; first_error = None }) c.new-group.result c.set_limit.new.self c.limit-2.result c.set_limit.result
+    c.new-group.ensures.empty refl refl refl c.set_limit.ensures.idle c.set_limit.ensures.ok (c.limit-2.ensures.limit ∙ ap (λ (p : PlanRecord). p.limit) (c.deref-4.ensures ∙ plan))
 
 pub returns-in_err-plan : goal.returns-in_err-plan
 returns-in_err-plan c = none_ok _ _ c.from_residual.result c.from_residual.ensures.1

@@ -1,4 +1,4 @@
-use Rattle.gateway_connection.specs.lemmas.Names.{ap, refl, arc_value, task_of}
+use Rattle.gateway_connection.specs.lemmas.Names.{ap, refl, arc_value, task_of, subst, sym, HasGone}
 use Rattle.gateway_connection.proofs.GroupLemmas.{gone_more, ok_is}
 use Rattle.gateway_connection.proofs.ResultLemmas.{none_ok}
 use Rattle.gateway_connection.proofs.begin.give.Goals as goal
@@ -15,3 +15,6 @@ returns-in_err-try_clone c = none_ok _ _ c.from_residual.result c.from_residual.
 
 pub returns-in_err-keep : goal.returns-in_err-keep
 returns-in_err-keep c = none_ok _ _ c.from_residual-in_err-keep.result c.from_residual-in_err-keep.ensures.1
+
+pub loop-index-init : goal.loop-index-init
+loop-index-init c = subst (HasGone c.args.id.now (arc_value c.args.asked.now) 0 c.args.group.now) (sym c.new-first.ensures.items) c.requires

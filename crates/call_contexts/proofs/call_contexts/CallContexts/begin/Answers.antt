@@ -1,9 +1,10 @@
-use Rattle.call_contexts.proofs.Names.{◌∙◌, ◌++◌, ◌∷◌, [], ap, refl, sym, ◌≡◌, true, is_among, WithHooks, call_for, is_conn, begun, with_call, let_go, Life}
-use Rattle.call_contexts.proofs.Seeing.{conn_among}
+use Rattle.call_contexts.proofs.Names.{◌∙◌, ◌++◌, ◌∷◌, [], ap, arith, refl, sym, ◌≡◌, true, is_among, WithHooks, begun, with_call, let_go, Life}
+use Rattle.call_contexts.proofs.Seeing.{conn_stands}
 use Rattle.call_contexts.proofs.Making.{call_free, call_unmade}
 use Rattle.call_contexts.proofs.Beginning.{begun_rises, sound_begun, seen_begun, begun_unheld, is_new, sound_alike, seen_alike, handed_back}
-use Rattle.call_contexts.proofs.Indexing.{indexed_back, indexed_push, not_begun, not_indexed}
-use Rattle.call_contexts.proofs.Hooking.{pair_is, kept_hooks, more_hooks}
+use Rattle.call_contexts.proofs.Indexing.{indexed_back, indexed_push, not_indexed, not_seen}
+use Rattle.call_contexts.proofs.Hooking.{hooked_is, pair_is, kept_hooks, more_hooks}
+use Rattle.call_contexts.proofs.Lists.{pushed_on, unless_err}
 use Rattle.call_contexts.proofs.call_contexts.CallContexts.begin.Goals as goal
 
 pub invariant_of-self-in_default : goal.invariant_of-self-in_default
@@ -23,9 +24,9 @@ pub invariant_of-self-in-Ok-keep : goal.invariant_of-self-in-Ok-keep
 invariant_of-self-in-Ok-keep g c =
     let s = c.self.invariant.sound in
     let l : Life = record { id = c.args.id.now; ctx = c.in-Ok.made.0; holder = c.in-Ok.made.1; conn = c.args.conn; deadline = c.args.deadline; hook = c.in-Ok-keep.hook; twigs = c.new-twigs.result } in
-    let there : is_among c.args.conn c.self.inside.conns.items ≡ true = sym (conn_among c.self.inside.tree.slots c.self.inside.conns.items c.args.conn) ∙ ap (λ (v : WithHooks _ _ _). is_conn c.args.conn v.standing.conns) c.self.view_is ∙ c.requires.known in
-    let fresh = not_begun c.self.inside.tree.slots c.args.id.now c.self.inside.calls.items (ap (λ (v : WithHooks _ _ _). call_for c.args.id.now v.standing.calls) c.self.view_is ∙ c.requires.named) in
-    let grown : c.push_reserved.new.self.items ≡ c.self.inside.calls.items ++ l ∷ [] = c.push_reserved.ensures.items ∙ ap (λ ls. ls ++ l ∷ []) c.reserve.ensures.items in
+    let there : is_among c.args.conn c.self.inside.conns.items ≡ true = conn_stands c.self.inside.tree.slots c.self.inside.conns.items c.args.conn c.self.view_is refl c.requires.known in
+    let fresh = not_seen c.self.inside.tree.slots c.args.id.now c.self.inside.calls.items c.self.view_is refl c.requires.named in
+    let grown : c.push_reserved.new.self.items ≡ c.self.inside.calls.items ++ l ∷ [] = pushed_on l c.self.inside.calls.items c.reserve.new.self.items c.push_reserved.new.self.items c.push_reserved.ensures.items c.reserve.ensures.items in
     rw grown (record {
       sound = sound_begun s.laws s l c.new-twigs.ensures c.args.now c.args.request_id c.in-Ok.ensures.held c.make.new.tree there (c.in-Ok.ensures.made s.past s.tree_is) c.args.hook c.keep.new.hooks (c.in-Ok-keep.ensures.hooked s.hooks s.hooks_are) (c.in-Ok-keep.ensures.number s.hooks s.hooks_are);
       rising = begun_rises s.laws s l c.new-twigs.ensures c.args.now c.args.request_id c.in-Ok.ensures.held c.make.new.tree there (c.in-Ok.ensures.made s.past s.tree_is) c.self.invariant.rising;
@@ -38,27 +39,25 @@ invariant_of-self-in-Err g c =
     let laws = s.laws in
     let made = c.in-Ok.ensures.made s.past s.tree_is in
     let free = call_free laws c.in-Ok.made.0 c.args.conn c.args.deadline c.args.now s.past c.in-Ok.made.1 c.args.request_id c.in-Ok.ensures.held made.contexts.lawful in
-    let fresh = not_begun c.self.inside.tree.slots c.args.id.now c.self.inside.calls.items (ap (λ (v : WithHooks _ _ _). call_for c.args.id.now v.standing.calls) c.self.view_is ∙ c.requires.named) in
+    let fresh = not_seen c.self.inside.tree.slots c.args.id.now c.self.inside.calls.items c.self.view_is refl c.requires.named in
     rw c.reserve.ensures.items (record { sound = sound_alike laws s (let_go c.in-Ok.made.0 c.in-Ok.made.1 (with_call c.in-Ok.made.0 c.in-Ok.made.1 c.args.conn c.args.deadline c.args.now c.args.request_id s.past)) c.release.new.tree (c.release.ensures _ made free) (call_unmade laws c.in-Ok.made.0 c.args.conn c.args.deadline c.args.now s.past c.in-Ok.made.1 c.args.request_id c.in-Ok.ensures.held made.contexts.lawful) (handed_back c.in-Ok.made.0 c.args.conn c.args.deadline c.args.now s.past c.in-Ok.made.1 c.args.request_id) c.keep.new.hooks (c.in-Err.ensures.unhooked s.hooks s.hooks_are); rising = c.self.invariant.rising; indexed = indexed_back c.args.id.now c.self.inside.calls.items c.self.invariant.indexed fresh (c.in-Err.ensures.unnamed (not_indexed c.args.id.now c.self.inside.calls.items c.self.invariant.indexed fresh)) })
 
 pub returns-in-Ok-keep-clause-stands : goal.returns-in-Ok-keep-clause-stands
 returns-in-Ok-keep-clause-stands g c =
     let s = c.self.invariant.sound in
     let l : Life = record { id = c.args.id.now; ctx = c.in-Ok.made.0; holder = c.in-Ok.made.1; conn = c.args.conn; deadline = c.args.deadline; hook = c.in-Ok-keep.hook; twigs = c.new-twigs.result } in
-    let there : is_among c.args.conn c.self.inside.conns.items ≡ true = sym (conn_among c.self.inside.tree.slots c.self.inside.conns.items c.args.conn) ∙ ap (λ (v : WithHooks _ _ _). is_conn c.args.conn v.standing.conns) c.self.view_is ∙ c.requires.known in
-    let grown : c.push_reserved.new.self.items ≡ c.self.inside.calls.items ++ l ∷ [] = c.push_reserved.ensures.items ∙ ap (λ ls. ls ++ l ∷ []) c.reserve.ensures.items in
+    let there : is_among c.args.conn c.self.inside.conns.items ≡ true = conn_stands c.self.inside.tree.slots c.self.inside.conns.items c.args.conn c.self.view_is refl c.requires.known in
+    let grown : c.push_reserved.new.self.items ≡ c.self.inside.calls.items ++ l ∷ [] = pushed_on l c.self.inside.calls.items c.reserve.new.self.items c.push_reserved.new.self.items c.push_reserved.ensures.items c.reserve.ensures.items in
     rw grown
-    (pair_is _ _
-    (seen_begun s.laws s l c.new-twigs.ensures c.args.now c.args.request_id c.in-Ok.ensures.held c.make.new.tree there (c.in-Ok.ensures.made s.past s.tree_is)
-    ∙ ap (λ (v : WithHooks _ _ _). begun c.in-Ok.made.0 c.args.id.now c.args.conn c.args.deadline c.args.now c.args.request_id v.standing) c.self.view_is)
-    (more_hooks c.self.inside.hooks c.keep.new.hooks s.hooks s.hooks_are c.in-Ok.made.0 c.args.hook (c.in-Ok-keep.ensures.hooked s.hooks s.hooks_are)
-    ∙ ap (λ (v : WithHooks _ _ _). v.hooks ++ (c.in-Ok.made.0, c.args.hook) ∷ []) c.self.view_is))
+    (hooked_is (begun c.in-Ok.made.0 c.args.id.now c.args.conn c.args.deadline c.args.now c.args.request_id) c.in-Ok.made.0 c.args.hook c.self.view_is
+    (seen_begun s.laws s l c.new-twigs.ensures c.args.now c.args.request_id c.in-Ok.ensures.held c.make.new.tree there (c.in-Ok.ensures.made s.past s.tree_is))
+    (more_hooks c.self.inside.hooks c.keep.new.hooks s.hooks s.hooks_are c.in-Ok.made.0 c.args.hook (c.in-Ok-keep.ensures.hooked s.hooks s.hooks_are)))
 
 pub returns-in-Ok-keep-clause-fresh : goal.returns-in-Ok-keep-clause-fresh
 returns-in-Ok-keep-clause-fresh g c =
     let s = c.self.invariant.sound in
     let l : Life = record { id = c.args.id.now; ctx = c.in-Ok.made.0; holder = c.in-Ok.made.1; conn = c.args.conn; deadline = c.args.deadline; hook = c.in-Ok-keep.hook; twigs = c.new-twigs.result } in
-    let there : is_among c.args.conn c.self.inside.conns.items ≡ true = sym (conn_among c.self.inside.tree.slots c.self.inside.conns.items c.args.conn) ∙ ap (λ (v : WithHooks _ _ _). is_conn c.args.conn v.standing.conns) c.self.view_is ∙ c.requires.known in
+    let there : is_among c.args.conn c.self.inside.conns.items ≡ true = conn_stands c.self.inside.tree.slots c.self.inside.conns.items c.args.conn c.self.view_is refl c.requires.known in
     rw (← c.self.view_is)
     (is_new s c.in-Ok.made.0 (begun_unheld s.laws s l c.new-twigs.ensures c.args.now c.args.request_id c.in-Ok.ensures.held c.make.new.tree there (c.in-Ok.ensures.made s.past s.tree_is)))
 
@@ -104,3 +103,6 @@ returns-in-Err-clause-stands g c = tt
 
 pub returns-in-Err-clause-fresh : goal.returns-in-Err-clause-fresh
 returns-in-Err-clause-fresh g c = tt
+
+pub push_reserved-requires : goal.push_reserved-requires
+push_reserved-requires g c = omega (arith, unless_err c.reserve.result (sym c.is_err.ensures.value ∙ c.if-is_err.false) c.reserve.ensures.ok)

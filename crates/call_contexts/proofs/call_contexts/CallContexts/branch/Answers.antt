@@ -1,6 +1,6 @@
-use Rattle.call_contexts.proofs.Names.{◌≡◌, ◌∙◌, ◌<◌, ap, sym, subst, length, true, false, None, list_any, same, WithHooks, branched, is_call, seen_call, IsPlaced, life_at}
+use Rattle.call_contexts.proofs.Names.{◌≡◌, ◌∙◌, ◌<◌, ap, refl, sym, subst, length, true, false, None, list_any, same, WithHooks, branched, is_call, seen_call, IsPlaced, life_at}
 use Rattle.call_contexts.proofs.Branching.{same_set, seen_started, sound_started}
-use Rattle.call_contexts.proofs.Hooking.{pair_is}
+use Rattle.call_contexts.proofs.Hooking.{standing_is}
 use Rattle.call_contexts.proofs.Indexing.{indexed_set}
 use Rattle.call_contexts.proofs.Order.{rising_set}
 use Rattle.call_contexts.proofs.Lists.{any_map, by_answer, if_ok, none_found, on_err}
@@ -26,9 +26,7 @@ returns-clause-stands g c =
     let s = c.self.inside in
     let lt : c.in-Some.place < length s.calls.items = subst (λ ls. c.in-Some.place < length ls) c.deref.ensures.value c.in-Some.ensures.some in
     let placed : IsPlaced c.args.call c.in-Some.place s.calls.items = subst (IsPlaced c.args.call c.in-Some.place) c.deref.ensures.value c.in-Some.ensures.its in
-    if_ok c.start.result c.start.ensures.made (λ m. pair_is _ _
-    (seen_started c.self.invariant.sound c.args.call c.in-Some.place c.index_mut.result.now c.start.new.self lt placed c.index_mut.ensures.value c.start.new.tree c.args.branch c.args.at c.args.now m
-    ∙ ap (λ (v : WithHooks _ _ _). branched c.args.call c.args.branch c.args.at c.args.now v.standing) c.self.view_is) (ap (λ (v : WithHooks _ _ _). v.hooks) c.self.view_is))
+    if_ok c.start.result c.start.ensures.made (λ m. standing_is (branched c.args.call c.args.branch c.args.at c.args.now) c.self.view_is (seen_started c.self.invariant.sound c.args.call c.in-Some.place c.index_mut.result.now c.start.new.self lt placed c.index_mut.ensures.value c.start.new.tree c.args.branch c.args.at c.args.now m) refl)
 
 pub returns-clause-unchanged : goal.returns-clause-unchanged
 returns-clause-unchanged g c =

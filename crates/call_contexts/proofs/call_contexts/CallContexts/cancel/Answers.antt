@@ -1,7 +1,7 @@
-use Rattle.call_contexts.proofs.Names.{◌∙◌, ap, sym, ◌≡◌, Some, true, Cancel, held, is_among, WithHooks, cancelled, is_conn}
-use Rattle.call_contexts.proofs.Seeing.{conn_among, conn_held, same_slots, sound_after_cancel}
+use Rattle.call_contexts.proofs.Names.{◌∙◌, ap, refl, ◌≡◌, Some, true, Cancel, held, is_among, WithHooks, cancelled, is_conn}
+use Rattle.call_contexts.proofs.Seeing.{conn_stands, conn_held, same_slots, sound_after_cancel}
 use Rattle.call_contexts.proofs.Cancelling.{seen_cancelled}
-use Rattle.call_contexts.proofs.Hooking.{pair_is}
+use Rattle.call_contexts.proofs.Hooking.{standing_is}
 use Rattle.call_contexts.proofs.call_contexts.CallContexts.cancel.Goals as goal
 
 pub invariant_of-self : goal.invariant_of-self
@@ -13,6 +13,5 @@ invariant_of-self g c =
 pub returns : goal.returns
 returns g c =
     let s = c.self.invariant.sound in
-    let there : is_among c.args.conn c.self.inside.conns.items ≡ true = sym (conn_among c.self.inside.tree.slots c.self.inside.conns.items c.args.conn) ∙ ap (λ (v : WithHooks _ _ _). is_conn c.args.conn v.standing.conns) c.self.view_is ∙ c.requires in
-    pair_is _ _ (seen_cancelled s.laws s c.args.conn c.args.cause there c.cancel.new.self c.cancel.result (c.cancel.ensures.answer s.past s.tree_is) (λ y. c.cancel.ensures.cancelled y s.past s.tree_is) (λ y. same_slots c.cancel.new.self c.self.inside.tree (c.cancel.ensures.unchanged y)) ∙ ap (λ (v : WithHooks _ _ _). cancelled c.args.conn c.args.cause v.standing) c.self.view_is)
-    (ap (λ (v : WithHooks _ _ _). v.hooks) c.self.view_is)
+    let there : is_among c.args.conn c.self.inside.conns.items ≡ true = conn_stands c.self.inside.tree.slots c.self.inside.conns.items c.args.conn c.self.view_is refl c.requires in
+    standing_is (cancelled c.args.conn c.args.cause) c.self.view_is (seen_cancelled s.laws s c.args.conn c.args.cause there c.cancel.new.self c.cancel.result (c.cancel.ensures.answer s.past s.tree_is) (λ y. c.cancel.ensures.cancelled y s.past s.tree_is) (λ y. same_slots c.cancel.new.self c.self.inside.tree (c.cancel.ensures.unchanged y))) refl

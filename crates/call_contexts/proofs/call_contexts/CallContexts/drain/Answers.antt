@@ -1,6 +1,6 @@
-use Rattle.call_contexts.proofs.Names.{◌∙◌, ap, WithHooks, all_ended}
+use Rattle.call_contexts.proofs.Names.{refl, all_ended}
 use Rattle.call_contexts.proofs.Seeing.{same_slots, seen_drained, sound_after_cancel}
-use Rattle.call_contexts.proofs.Hooking.{pair_is}
+use Rattle.call_contexts.proofs.Hooking.{standing_is}
 use Rattle.call_contexts.proofs.call_contexts.CallContexts.drain.Goals as goal
 
 pub invariant_of-self : goal.invariant_of-self
@@ -11,5 +11,4 @@ invariant_of-self g c =
 pub returns : goal.returns
 returns g c =
     let s = c.self.invariant.sound in
-    pair_is _ _ (seen_drained s.laws s c.args.cause c.cancel.new.self c.cancel.result (c.cancel.ensures.answer s.past s.tree_is) (λ y. c.cancel.ensures.cancelled y s.past s.tree_is) (λ y. same_slots c.cancel.new.self c.self.inside.tree (c.cancel.ensures.unchanged y)) ∙ ap (λ (v : WithHooks _ _ _). all_ended c.args.cause v.standing) c.self.view_is)
-    (ap (λ (v : WithHooks _ _ _). v.hooks) c.self.view_is)
+    standing_is (all_ended c.args.cause) c.self.view_is (seen_drained s.laws s c.args.cause c.cancel.new.self c.cancel.result (c.cancel.ensures.answer s.past s.tree_is) (λ y. c.cancel.ensures.cancelled y s.past s.tree_is) (λ y. same_slots c.cancel.new.self c.self.inside.tree (c.cancel.ensures.unchanged y))) refl

@@ -16,3 +16,6 @@ returns-in-None g c =
     let none : life_for c.args.id.now c.self.inside.calls.items ≡ None = ap (life_for c.args.id.now) (sym c.deref.ensures.value) ∙ sym c.named.ensures ∙ ap (option_map (λ l. l.now)) c.in-None.is in
     sym (asked c.self.inside.tree.slots (λ d. d.ended) c.args.id.now c.self.inside.calls.items ∙ ap (option_and_then (λ l. cause_in c.self.inside.tree.slots l.ctx)) none)
     ∙ ap (λ (v : WithHooks _ _ _). ended_call c.args.id.now v.standing.calls) c.self.view_is
+
+pub named-requires : goal.named-requires
+named-requires g c = rw c.deref.ensures.value (record { rising = c.self.invariant.rising; indexed = c.self.invariant.indexed })

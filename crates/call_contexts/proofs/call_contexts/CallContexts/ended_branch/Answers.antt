@@ -49,3 +49,6 @@ returns-else-is_some g c =
     sym (ended_found slots c.args.id.now c.self.inside.calls.items ∙ ap (option_and_then (λ l. kept_before slots l.deadline (soonest_of l.twigs))) at
     ∙ ap (kept_before slots l.deadline) found ∙ ap (λ b. if b then if_before l.deadline t.at t.branch else None) some)
     ∙ ap (λ (v : WithHooks _ _ _). ended_branch c.args.id.now v.standing.calls) c.self.view_is
+
+pub named-requires : goal.named-requires
+named-requires g c = rw c.deref.ensures.value (record { rising = c.self.invariant.rising; indexed = c.self.invariant.indexed })

@@ -1,8 +1,9 @@
-use Rattle.gateway_connection.specs.lemmas.Names.{ap, sym, subst, ◌∙◌, is_some, option_map, arc_value, err_if, Arrives, Request, arriving_in, asking, is_full, next_held}
+use Rattle.gateway_connection.specs.lemmas.Names.{[], Some, inl, ap, refl, sym, subst, ◌∙◌, gone, is_some, step_to, ReplyValue, option_map, arc_value, err_if, Arrives, Request, arriving_in, asking, is_full, next_held}
 use Rattle.std.specs.Prelude.{IfOk}
+use Rattle.gateway_model.specs.declared.entry.ReplyEntry.TheVariants.{Judged}
 use Rattle.connect_codec.specs.Verdict.{verdict_of}
 use Rattle.gateway_theory.specs.lemmas.EventLemmas.{no_call, timely}
-use Rattle.gateway_connection.proofs.EnterLemmas.{asks_is, fails_same}
+use Rattle.gateway_connection.proofs.EnterLemmas.{asks_is, fails_same, judged_is}
 use Rattle.gateway_connection.proofs.ResultLemmas.{none_ok}
 use Rattle.gateway_connection.proofs.connection.Connection.arriving.Goals as goal
 
@@ -41,6 +42,25 @@ returns-in_err-asked-in-Some-clause-ok g c = none_ok _ _ c.from_residual-in_err-
 
 pub returns-in_err-reply-in_default-clause-ok : goal.returns-in_err-reply-in_default-clause-ok
 returns-in_err-reply-in_default-clause-ok g c = none_ok _ _ c.from_residual-in_err-reply-in_default.result c.from_residual-in_err-reply-in_default.ensures.1
+
+pub returns-in_ok-reply-in_default-clause-err : goal.returns-in_ok-reply-in_default-clause-err
+returns-in_ok-reply-in_default-clause-err g c = tt
+
+pub returns-in_ok-reply-in_default-clause-ok : goal.returns-in_ok-reply-in_default-clause-ok
+returns-in_ok-reply-in_default-clause-ok g c =
+    let judged = judged_is c.plan_named-plan.result (λ p. arc_value p.now) c.args.shared.now.plans c.args.request c.in_ok-verdict.verdict c.is_some.result
+    c.is_some.ensures c.plan_named-plan.ensures c.in_ok-verdict.ensures.first_rule c.in_default.not-Ask in
+    record {
+      comes = (
+        ap (λ (r : ReplyValue). r.id) c.in_ok-reply-in_default.ensures ∙ c.next_id.ensures,
+        ap (λ a. arriving_in c.args.shared.now.moment c.args.shared.now.contexts.standing.drained (Request c.args.request a) c.args.self.now) judged
+            ∙ ap (λ last. step_to gone (Some (Judged c.in_ok-verdict.verdict last)) []) (sym c.closes.ensures)
+            ∙ sym (ap (λ (r : ReplyValue). step_to gone (Some r.entry) []) c.in_ok-reply-in_default.ensures),
+      );
+      contexts = refl;
+      hooks = λ other stock there. inl there;
+      rest = refl;
+    }
 
 pub returns-in_ok-asked-in-Some-clause-err : goal.returns-in_ok-asked-in-Some-clause-err
 returns-in_ok-asked-in-Some-clause-err g c = c.asking.ensures.err

@@ -1,47 +1,32 @@
-use Rattle.gateway_connection.specs.lemmas.Names.{◌≡◌, ◌∙◌, ◌++◌, ◌∷◌, [], None, ap, arith, err_if, map, refl, sym, subst, map-append, sum_by_push, AreInPlace, entry_in, KeptValue, HeldConnection, held_connection, waiting, waiting_in, job_at, Holds, next_held, held_by, JobsValue, IsBegun, true}
-use Rattle.gateway_connection.proofs.EnterLemmas.{begun_held, first_queued}
-use Rattle.gateway_connection.proofs.HoldsLemmas.{holds_begun}
+use Rattle.gateway_connection.specs.lemmas.Names.{◌≡◌, ◌∙◌, ◌++◌, ◌∷◌, [], None, ap, arith, err_if, map, refl, sym, subst, sum_by_push, AreInPlace, KeptValue, HeldConnection, waiting, waiting_in, job_at, next_held, held_by, JobsValue, IsBegun, true}
+use Rattle.gateway_connection.proofs.EnterLemmas.{begun_held, begun_now, first_queued}
+use Rattle.gateway_connection.proofs.HoldsLemmas.{holds_begun, roomy_holds, roomy_is}
 use Rattle.gateway_connection.proofs.SlotLemmas.{more_place}
 use Rattle.gateway_connection.proofs.ResultLemmas.{by_memory, none_on}
 use Rattle.gateway_connection.proofs.connection.Connection.begin.Goals as goal
 
 pub invariant_of-self : goal.invariant_of-self
-invariant_of-self g c = (
-  c.self.invariant.0,
-  subst (λ ks. Holds (held_by c.self.inside.number c.self.inside.taken c.self.inside.slots.items ks c.self.inside.broken c.self.inside.closed c.self.inside.hung_up c.self.inside.reader)) (sym c.reserve.ensures.items) c.self.invariant.1,
-)
+invariant_of-self g c =
+    roomy_holds c.self.inside.number c.self.inside.taken c.self.inside.slots.items c.self.inside.slots.items c.self.inside.calls.items c.reserve.new.self.items c.self.inside.broken c.self.inside.closed c.self.inside.hung_up c.self.inside.reader refl c.reserve.ensures.items c.self.invariant
 
 pub invariant_of-self-in_err-reserve-2 : goal.invariant_of-self-in_err-reserve-2
-invariant_of-self-in_err-reserve-2 g c = (
-  subst (AreInPlace c.self.inside.number c.self.inside.taken) (sym c.reserve-2.ensures.items) c.self.invariant.0,
-  subst (λ xs. Holds (held_by c.self.inside.number c.self.inside.taken xs c.reserve.new.self.items c.self.inside.broken c.self.inside.closed c.self.inside.hung_up c.self.inside.reader)) (sym c.reserve-2.ensures.items)
-      (subst (λ ks. Holds (held_by c.self.inside.number c.self.inside.taken c.self.inside.slots.items ks c.self.inside.broken c.self.inside.closed c.self.inside.hung_up c.self.inside.reader)) (sym c.reserve.ensures.items) c.self.invariant.1),
-)
+invariant_of-self-in_err-reserve-2 g c =
+    roomy_holds c.self.inside.number c.self.inside.taken c.self.inside.slots.items c.reserve-2.new.self.items c.self.inside.calls.items c.reserve.new.self.items c.self.inside.broken c.self.inside.closed c.self.inside.hung_up c.self.inside.reader c.reserve-2.ensures.items c.reserve.ensures.items c.self.invariant
 
 pub invariant_of-self-in_err-reserve-3 : goal.invariant_of-self-in_err-reserve-3
-invariant_of-self-in_err-reserve-3 g c = (
-  subst (AreInPlace c.self.inside.number c.self.inside.taken) (sym c.reserve-2.ensures.items) c.self.invariant.0,
-  subst (λ xs. Holds (held_by c.self.inside.number c.self.inside.taken xs c.reserve.new.self.items c.self.inside.broken c.self.inside.closed c.self.inside.hung_up c.self.inside.reader)) (sym c.reserve-2.ensures.items)
-      (subst (λ ks. Holds (held_by c.self.inside.number c.self.inside.taken c.self.inside.slots.items ks c.self.inside.broken c.self.inside.closed c.self.inside.hung_up c.self.inside.reader)) (sym c.reserve.ensures.items) c.self.invariant.1),
-)
+invariant_of-self-in_err-reserve-3 g c =
+    roomy_holds c.self.inside.number c.self.inside.taken c.self.inside.slots.items c.reserve-2.new.self.items c.self.inside.calls.items c.reserve.new.self.items c.self.inside.broken c.self.inside.closed c.self.inside.hung_up c.self.inside.reader c.reserve-2.ensures.items c.reserve.ensures.items c.self.invariant
 
 pub invariant_of-self-in_err-begun : goal.invariant_of-self-in_err-begun
-invariant_of-self-in_err-begun g c = (
-  subst (AreInPlace c.self.inside.number c.self.inside.taken) (sym c.reserve-2.ensures.items) c.self.invariant.0,
-  subst (λ xs. Holds (held_by c.self.inside.number c.self.inside.taken xs c.reserve.new.self.items c.self.inside.broken c.self.inside.closed c.self.inside.hung_up c.self.inside.reader)) (sym c.reserve-2.ensures.items)
-      (subst (λ ks. Holds (held_by c.self.inside.number c.self.inside.taken c.self.inside.slots.items ks c.self.inside.broken c.self.inside.closed c.self.inside.hung_up c.self.inside.reader)) (sym c.reserve.ensures.items) c.self.invariant.1),
-)
+invariant_of-self-in_err-begun g c =
+    roomy_holds c.self.inside.number c.self.inside.taken c.self.inside.slots.items c.reserve-2.new.self.items c.self.inside.calls.items c.reserve.new.self.items c.self.inside.broken c.self.inside.closed c.self.inside.hung_up c.self.inside.reader c.reserve-2.ensures.items c.reserve.ensures.items c.self.invariant
 
 pub invariant_of-self-2 : goal.invariant_of-self-2
 invariant_of-self-2 g c =
     let slots : c.push_back_reserved.new.self.items ≡ c.self.inside.slots.items ++ None ∷ [] = c.push_back_reserved.ensures.items ∙ ap (λ xs. xs ++ None ∷ []) c.reserve-2.ensures.items in
     let calls : c.push_reserved.new.self.items ≡ c.self.inside.calls.items ++ c.in_ok-begun.begun.call ∷ [] = c.push_reserved.ensures.items ∙ ap (λ ks. ks ++ c.in_ok-begun.begun.call ∷ []) c.reserve.ensures.items in
-    let now : (held_by c.self.inside.number c.self.inside.taken c.push_back_reserved.new.self.items c.push_reserved.new.self.items c.self.inside.broken c.self.inside.closed c.self.inside.hung_up c.self.inside.reader)
-    ≡ record (held_by c.self.inside.number c.self.inside.taken c.self.inside.slots.items c.self.inside.calls.items c.self.inside.broken c.self.inside.closed c.self.inside.hung_up c.self.inside.reader) { slots = map entry_in c.self.inside.slots.items ++ None ∷ []; calls = c.self.inside.calls.items ++ c.in_ok-begun.begun.call ∷ [] } =
-    ap (λ xs. (held_by c.self.inside.number c.self.inside.taken xs c.push_reserved.new.self.items c.self.inside.broken c.self.inside.closed c.self.inside.hung_up c.self.inside.reader)) slots
-    ∙ ap (λ ks. (held_by c.self.inside.number c.self.inside.taken (c.self.inside.slots.items ++ None ∷ []) ks c.self.inside.broken c.self.inside.closed c.self.inside.hung_up c.self.inside.reader)) calls
-    ∙ ap (λ xs. held_connection c.self.inside.number c.self.inside.taken xs (c.self.inside.calls.items ++ c.in_ok-begun.begun.call ∷ []) c.self.inside.broken c.self.inside.closed c.self.inside.hung_up c.self.inside.reader)
-    (map-append entry_in c.self.inside.slots.items (None ∷ [])) in (
+    let now = begun_now c.self.inside.number c.self.inside.taken c.self.inside.slots.items c.push_back_reserved.new.self.items c.self.inside.calls.items c.push_reserved.new.self.items c.in_ok-begun.begun.call
+    c.self.inside.broken c.self.inside.closed c.self.inside.hung_up c.self.inside.reader slots calls in (
       subst (AreInPlace c.self.inside.number c.self.inside.taken) (sym slots) (more_place c.self.inside.number c.self.inside.taken c.self.inside.slots.items c.self.invariant.0),
       holds_begun (held_by c.self.inside.number c.self.inside.taken c.self.inside.slots.items c.self.inside.calls.items c.self.inside.broken c.self.inside.closed c.self.inside.hung_up c.self.inside.reader)
           (held_by c.self.inside.number c.self.inside.taken c.push_back_reserved.new.self.items c.push_reserved.new.self.items c.self.inside.broken c.self.inside.closed c.self.inside.hung_up c.self.inside.reader) c.in_ok-begun.begun.call now
@@ -54,12 +39,8 @@ pub returns-clause-ok : goal.returns-clause-ok
 returns-clause-ok g c =
     let slots : c.push_back_reserved.new.self.items ≡ c.self.inside.slots.items ++ None ∷ [] = c.push_back_reserved.ensures.items ∙ ap (λ xs. xs ++ None ∷ []) c.reserve-2.ensures.items in
     let calls : c.push_reserved.new.self.items ≡ c.self.inside.calls.items ++ c.in_ok-begun.begun.call ∷ [] = c.push_reserved.ensures.items ∙ ap (λ ks. ks ++ c.in_ok-begun.begun.call ∷ []) c.reserve.ensures.items in
-    let now : (held_by c.self.inside.number c.self.inside.taken c.push_back_reserved.new.self.items c.push_reserved.new.self.items c.self.inside.broken c.self.inside.closed c.self.inside.hung_up c.self.inside.reader)
-    ≡ record (held_by c.self.inside.number c.self.inside.taken c.self.inside.slots.items c.self.inside.calls.items c.self.inside.broken c.self.inside.closed c.self.inside.hung_up c.self.inside.reader) { slots = map entry_in c.self.inside.slots.items ++ None ∷ []; calls = c.self.inside.calls.items ++ c.in_ok-begun.begun.call ∷ [] } =
-    ap (λ xs. (held_by c.self.inside.number c.self.inside.taken xs c.push_reserved.new.self.items c.self.inside.broken c.self.inside.closed c.self.inside.hung_up c.self.inside.reader)) slots
-    ∙ ap (λ ks. (held_by c.self.inside.number c.self.inside.taken (c.self.inside.slots.items ++ None ∷ []) ks c.self.inside.broken c.self.inside.closed c.self.inside.hung_up c.self.inside.reader)) calls
-    ∙ ap (λ xs. held_connection c.self.inside.number c.self.inside.taken xs (c.self.inside.calls.items ++ c.in_ok-begun.begun.call ∷ []) c.self.inside.broken c.self.inside.closed c.self.inside.hung_up c.self.inside.reader)
-    (map-append entry_in c.self.inside.slots.items (None ∷ [])) in
+    let now = begun_now c.self.inside.number c.self.inside.taken c.self.inside.slots.items c.push_back_reserved.new.self.items c.self.inside.calls.items c.push_reserved.new.self.items c.in_ok-begun.begun.call
+    c.self.inside.broken c.self.inside.closed c.self.inside.hung_up c.self.inside.reader slots calls in
     let begun : IsBegun c.args.shared.now.moment (next_held c.args.self.now) c.args.asked c.in_ok-begun.begun.call c.in_ok-begun.begun.first.items =
     subst (λ d. IsBegun c.args.shared.now.moment d c.args.asked c.in_ok-begun.begun.call c.in_ok-begun.begun.first.items) c.next_id-id.ensures c.in_ok-begun.ensures in
     let made = ap (λ (q : JobsValue). q.jobs) c.in_ok-reserve-3.ensures.ok in
@@ -86,26 +67,19 @@ returns-clause-ok g c =
 
 pub returns-in_err-reserve-clause-err : goal.returns-in_err-reserve-clause-err
 returns-in_err-reserve-clause-err g c =
-    err_if c.from_residual.result
-    (ap (λ ks. held_by c.self.inside.number c.self.inside.taken c.self.inside.slots.items ks c.self.inside.broken c.self.inside.closed c.self.inside.hung_up c.self.inside.reader) c.reserve.ensures.items ∙ c.self.view_is)
+    err_if c.from_residual.result (roomy_is c.self.inside.number c.self.inside.taken c.self.inside.slots.items c.self.inside.slots.items c.self.inside.calls.items c.reserve.new.self.items c.self.inside.broken c.self.inside.closed c.self.inside.hung_up c.self.inside.reader refl c.reserve.ensures.items ∙ c.self.view_is)
 
 pub returns-in_err-reserve-2-clause-err : goal.returns-in_err-reserve-2-clause-err
 returns-in_err-reserve-2-clause-err g c =
-    err_if c.from_residual-in_err-reserve-2.result
-    (ap (λ xs. held_by c.self.inside.number c.self.inside.taken xs c.reserve.new.self.items c.self.inside.broken c.self.inside.closed c.self.inside.hung_up c.self.inside.reader) c.reserve-2.ensures.items
-    ∙ ap (λ ks. held_by c.self.inside.number c.self.inside.taken c.self.inside.slots.items ks c.self.inside.broken c.self.inside.closed c.self.inside.hung_up c.self.inside.reader) c.reserve.ensures.items ∙ c.self.view_is)
+    err_if c.from_residual-in_err-reserve-2.result (roomy_is c.self.inside.number c.self.inside.taken c.self.inside.slots.items c.reserve-2.new.self.items c.self.inside.calls.items c.reserve.new.self.items c.self.inside.broken c.self.inside.closed c.self.inside.hung_up c.self.inside.reader c.reserve-2.ensures.items c.reserve.ensures.items ∙ c.self.view_is)
 
 pub returns-in_err-begun-clause-err : goal.returns-in_err-begun-clause-err
 returns-in_err-begun-clause-err g c =
-    err_if c.from_residual-in_err-begun.result
-    (ap (λ xs. held_by c.self.inside.number c.self.inside.taken xs c.reserve.new.self.items c.self.inside.broken c.self.inside.closed c.self.inside.hung_up c.self.inside.reader) c.reserve-2.ensures.items
-    ∙ ap (λ ks. held_by c.self.inside.number c.self.inside.taken c.self.inside.slots.items ks c.self.inside.broken c.self.inside.closed c.self.inside.hung_up c.self.inside.reader) c.reserve.ensures.items ∙ c.self.view_is)
+    err_if c.from_residual-in_err-begun.result (roomy_is c.self.inside.number c.self.inside.taken c.self.inside.slots.items c.reserve-2.new.self.items c.self.inside.calls.items c.reserve.new.self.items c.self.inside.broken c.self.inside.closed c.self.inside.hung_up c.self.inside.reader c.reserve-2.ensures.items c.reserve.ensures.items ∙ c.self.view_is)
 
 pub returns-in_err-reserve-3-clause-err : goal.returns-in_err-reserve-3-clause-err
 returns-in_err-reserve-3-clause-err g c =
-    err_if c.from_residual-in_err-reserve-3.result
-    (ap (λ xs. held_by c.self.inside.number c.self.inside.taken xs c.reserve.new.self.items c.self.inside.broken c.self.inside.closed c.self.inside.hung_up c.self.inside.reader) c.reserve-2.ensures.items
-    ∙ ap (λ ks. held_by c.self.inside.number c.self.inside.taken c.self.inside.slots.items ks c.self.inside.broken c.self.inside.closed c.self.inside.hung_up c.self.inside.reader) c.reserve.ensures.items ∙ c.self.view_is)
+    err_if c.from_residual-in_err-reserve-3.result (roomy_is c.self.inside.number c.self.inside.taken c.self.inside.slots.items c.reserve-2.new.self.items c.self.inside.calls.items c.reserve.new.self.items c.self.inside.broken c.self.inside.closed c.self.inside.hung_up c.self.inside.reader c.reserve-2.ensures.items c.reserve.ensures.items ∙ c.self.view_is)
 
 pub returns-in_err-reserve-clause-ok : goal.returns-in_err-reserve-clause-ok
 returns-in_err-reserve-clause-ok g c = none_on _ _ c.from_residual.result c.from_residual.ensures.1

@@ -179,3 +179,13 @@ returns-in_err-reply-clause-ok g c = none_on _ _ c.from_residual.result c.from_r
 
 pub push_reserved-requires : goal.push_reserved-requires
 push_reserved-requires g c = omega (arith, on_ok c.reserve.result _ c.reserve.ensures.ok (sym c.is_err.ensures.value ∙ c.if-is_err.false))
+
+pub index-call-requires : goal.index-call-requires
+index-call-requires g c =
+    let there : c.args.index < length c.self.inside.calls.items = subst (λ ks. c.args.index < length ks) (sym (ap (λ (k : HeldConnection). k.calls) c.self.view_is)) c.requires.there in
+    omega (arith, there)
+
+pub index_mut-call-requires : goal.index_mut-call-requires
+index_mut-call-requires g c =
+    let there : c.args.index < length c.self.inside.calls.items = subst (λ ks. c.args.index < length ks) (sym (ap (λ (k : HeldConnection). k.calls) c.self.view_is)) c.requires.there in
+    omega (arith, there)

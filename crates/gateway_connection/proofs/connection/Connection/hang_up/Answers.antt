@@ -43,3 +43,18 @@ returns-then-end_calls-clause-hangs g c =
 
 pub returns-clause-hangs : goal.returns-clause-hangs
 returns-clause-hangs g c = hung (sym c.is_listening.ensures ∙ c.if-not-is_listening.false) refl (c.if-end_calls.ensures.ends ∙ ap (λ (k : HeldConnection). ended_held (HungUp k.number) (hung_held k)) c.self.view_is)
+
+pub returns-clause-begun : goal.returns-clause-begun
+returns-clause-begun g c = c.if-end_calls.ensures.begun
+
+pub returns-clause-tied : goal.returns-clause-tied
+returns-clause-tied g c = c.if-end_calls.ensures.tied
+
+pub returns-then-end_calls-clause-begun : goal.returns-then-end_calls-clause-begun
+returns-then-end_calls-clause-begun g c = c.if-end_calls.ensures.begun
+
+pub returns-then-end_calls-clause-tied : goal.returns-then-end_calls-clause-tied
+returns-then-end_calls-clause-tied g c = c.if-end_calls.ensures.tied
+
+pub returns-then-not-is_listening-clause-tied : goal.returns-then-not-is_listening-clause-tied
+returns-then-not-is_listening-clause-tied g c = c.requires.may.tied

@@ -72,3 +72,8 @@ returns-then-is_err-clause-tied g c = c.lose.ensures.tied
 
 pub settle-requires-clause-may : goal.settle-requires-clause-may
 settle-requires-clause-may g c = c.requires
+
+pub index-requires : goal.index-requires
+index-requires g c =
+    let there = c.in-Some.ensures.0.0 in
+    omega (arith, there, ap (λ (k : HeldConnection). length k.calls) c.self.view_is)

@@ -1,6 +1,7 @@
-use Rattle.gateway_connection.specs.lemmas.Names.{◌≡◌, ◌+◌, ◌++◌, [], ◌∷◌, length, subst, sym, ap, ◌∙◌, ◌==◌, IsLawful, record_of, LiveValue, live_value, KeptValue, has_out, Some, false, result_on, slice_set}
+use Rattle.gateway_connection.specs.lemmas.Names.{◌≡◌, ◌+◌, ◌++◌, [], ◌∷◌, length, subst, sym, ap, ◌∙◌, ◌==◌, IsLawful, record_of, LiveValue, live_value, KeptValue, has_out, Some, false, result_on, slice_set, arith}
 use Rattle.gateway_model.specs.declared.call_event.CallEvent.TheVariants.{Answer as Answered, Failed}
 use Rattle.gateway_connection.specs.KeptCall.{live_of}
+use Rattle.gateway_theory.specs.lemmas.Knowing.{index_in}
 use Rattle.gateway_connection.proofs.KeptLemmas.{room_next, fail_kept, end_step, late_now, late_step, answer_last_kept, answer_going_kept, last_step, going_step}
 use Rattle.gateway_connection.proofs.kept.Kept.take_result.Goals as goal
 
@@ -72,3 +73,11 @@ start-requires-clause-room c =
     room_next c.self.inside.id c.self.inside.out.items c.args.branch c.self.inside.group c.self.inside.live c.in-Some.live c.done-in-Answer.result.next c.self.invariant
     (sym c.take-live.ensures.value ∙ c.in-Some.is) (ap (λ (k : KeptValue). has_out k.call c.args.branch) c.self.view_is ∙ c.requires.out)
     (ap (λ f. f.next) c.done-in-Answer.ensures.freed)
+
+pub index_mut-requires : goal.index_mut-requires
+index_mut-requires c =
+    let lt = index_in c.self.inside.out.items c.args.branch (ap (λ (k : KeptValue). has_out k.call c.args.branch) c.self.view_is ∙ c.requires.out) in
+    omega (arith, lt)
+
+pub start-requires-clause-moment : goal.start-requires-clause-moment
+start-requires-clause-moment c = c.requires.moment

@@ -1,4 +1,5 @@
 use Rattle.gateway_core.proofs.Names.{sym, subst, ap, ◌∙◌, Ok, Err, refl, false, arith, List, ◌+◌, Keeps, IsServing, AddsOpening, OpensFew, TakesOpening, opens_serving, IsWhole, gateway_of, opens_adds, opens_few, opens_keeps, opens_stands, same_keeps, unopens_adds, unopens_stands, is_at, remove_entry, nat_cmp}
+use Rattle.gateway_theory.specs.Gateway.{conn_count}
 use Rattle.gateway_core.proofs.StepLemmas.{same_whole}
 use Rattle.gateway_core.proofs.OpenLemmas.{no_peer, opens_step, opens_whole, unborn}
 use Rattle.gateway_theory.specs.declared.fault.OpenError.{OpenError}
@@ -84,3 +85,27 @@ returns-in_default-clause-refused g c = subst (RefusesOpening Memory) c.self.vie
 
 pub returns-in-Err-clause-refused : goal.returns-in-Err-clause-refused
 returns-in-Err-clause-refused g c = subst (RefusesOpening Memory) c.self.view_is (omega (arith, c.if-self-ge-MOST_OPEN.false, c.self.invariant.open_is), omega (arith, c.if-self-ge-MOST_OPENINGS.false))
+
+pub overflow_add-self : goal.overflow_add-self
+overflow_add-self g c = omega (arith, c.if-self-ge-MOST_OPENINGS.false)
+
+pub overflow_add-self-2 : goal.overflow_add-self-2
+overflow_add-self-2 g c = omega (arith, c.if-self-ge-MOST_OPEN.false)
+
+pub returns-clause-number : goal.returns-clause-number
+returns-clause-number g c = c.of.ensures ∙ ap conn_count c.self.view_is
+
+pub returns-in-Err-clause-back : goal.returns-in-Err-clause-back
+returns-in-Err-clause-back g c = c.in-Err.ensures.back
+
+pub returns-then-self-ge-MOST_OPEN-clause-few : goal.returns-then-self-ge-MOST_OPEN-clause-few
+returns-then-self-ge-MOST_OPEN-clause-few g c = λ h stands. tt
+
+pub returns-then-self-ge-MOST_OPENINGS-clause-few : goal.returns-then-self-ge-MOST_OPENINGS-clause-few
+returns-then-self-ge-MOST_OPENINGS-clause-few g c = λ h stands. tt
+
+pub returns-in_default-clause-few : goal.returns-in_default-clause-few
+returns-in_default-clause-few g c = λ h stands. tt
+
+pub returns-in-Err-clause-few : goal.returns-in-Err-clause-few
+returns-in-Err-clause-few g c = λ h stands. tt

@@ -1,3 +1,4 @@
+use Rattle.gateway_loop.proofs.Words.{◌∙◌}
 use Rattle.gateway_loop.proofs.GrowLemmas.{grows_by, grows_same, no_more}
 use Rattle.gateway_loop.proofs.StepLemmas.{fits_as_before, fits_still}
 use Rattle.gateway_loop.proofs.client.Client.send.Goals as goal
@@ -53,3 +54,18 @@ pub returns-in-Failed-clause-grows : goal.returns-in-Failed-clause-grows
 returns-in-Failed-clause-grows g c =
     let e = c.in-Failed.ensures in
     rw (← c.self.view_is) (grows_by _ _ _ _ _ _ _ _ _ _ _ _ _ (no_more _ _ e.given) (no_more _ _ e.got))
+
+pub invariant_of-self : goal.invariant_of-self
+invariant_of-self g c = λ reads. c.in-Bytes.ensures.ended ∙ c.self.invariant reads
+
+pub invariant_of-self-else-is_empty-2 : goal.invariant_of-self-else-is_empty-2
+invariant_of-self-else-is_empty-2 g c = λ reads. c.in-Bytes.ensures.ended ∙ c.self.invariant reads
+
+pub invariant_of-self-in-Failed : goal.invariant_of-self-in-Failed
+invariant_of-self-in-Failed g c = λ reads. c.in-Failed.ensures.ended ∙ c.self.invariant reads
+
+pub invariant_of-self-in-Interrupted : goal.invariant_of-self-in-Interrupted
+invariant_of-self-in-Interrupted g c = λ reads. c.in-Interrupted.ensures.ended ∙ c.self.invariant reads
+
+pub invariant_of-self-in-Nothing : goal.invariant_of-self-in-Nothing
+invariant_of-self-in-Nothing g c = λ reads. c.in-Nothing.ensures.ended ∙ c.self.invariant reads

@@ -1,12 +1,9 @@
 use Rattle.gateway_loop.proofs.Words.{◌∙◌}
-use Rattle.gateway_loop.proofs.AskLemmas.{goes_same, goes_then}
+use Rattle.gateway_loop.proofs.AskLemmas.{goes_then}
 use Rattle.gateway_loop.proofs.event_loop.EventLoop.close.Goals as goal
 
 pub loop-exchange-preserved : goal.loop-exchange-preserved
 loop-exchange-preserved g c = (goes_then _ _ _ c.loop-exchange.invariant.0 c.give_up.ensures.goes, c.give_up.ensures.told ∙ c.loop-exchange.invariant.1)
-
-pub returns-in_default-clause-goes : goal.returns-in_default-clause-goes
-returns-in_default-clause-goes g c = rw (← c.self.view_is) (goes_same _)
 
 pub returns-clause-goes : goal.returns-clause-goes
 returns-clause-goes g c = c.loop-exchange.invariant.0

@@ -1,11 +1,21 @@
-use Rattle.gateway_loop.proofs.Words.{Goes}
+use Rattle.gateway_loop.proofs.Words.{refl}
+use Rattle.gateway_loop.proofs.AskLemmas.{goes_same}
 use Rattle.gateway_loop.proofs.event_loop.EventLoop.finish.Goals as goal
-use Rattle.gateway_loop.proofs.event_loop.EventLoop.finish.Goals.{in-Some, in_default, in-Some-waits, in_default-waits}
 
 pub returns-clause-goes : goal.returns-clause-goes
-returns-clause-goes g c =
-    let finished : Goes c.self.inside.exchanges c.finish.new.self = elim c.match-get_mut.branch [
-      | in-Some w ↦ rw w.self-inside-is at c.finish.ensures.goes
-      | in_default w ↦ rw w.self-inside-is at c.finish.ensures.goes
-    ] in
-    rw (← c.self.view_is) (elim c.match-errand.branch [ in-Some-waits w ↦ rw w.self-inside-is finished | in_default-waits w ↦ rw w.self-inside-is finished ])
+returns-clause-goes g c = rw (← c.self.view_is) c.finish.ensures.goes
+
+pub returns-in_err-end-clause-goes : goal.returns-in_err-end-clause-goes
+returns-in_err-end-clause-goes g c = rw (← c.self.view_is) c.finish.ensures.goes
+
+pub returns-in_err-errand-clause-goes : goal.returns-in_err-errand-clause-goes
+returns-in_err-errand-clause-goes g c = rw (← c.self.view_is) (goes_same _)
+
+pub returns-clause-told : goal.returns-clause-told
+returns-clause-told g c = rw (c.finish.ensures.told, c.self.view_is) refl
+
+pub returns-in_err-end-clause-told : goal.returns-in_err-end-clause-told
+returns-in_err-end-clause-told g c = rw (c.finish.ensures.told, c.self.view_is) refl
+
+pub returns-in_err-errand-clause-told : goal.returns-in_err-errand-clause-told
+returns-in_err-errand-clause-told g c = rw c.self.view_is refl

@@ -5,22 +5,22 @@ use Rattle.gateway_loop.proofs.event_loop.EventLoop.serve_client.Goals.{then-mat
 
 pub returns-clause-goes : goal.returns-clause-goes
 returns-clause-goes g c =
-    let after : Goes c.note_half_read.new.self c.if-matches.self = elim c.if-matches.branch [
+    let after : Goes c.read_client-heard.new.self c.if-matches.self = elim c.if-matches.branch [
       | then-matches w ↦ rw w.self-is w.give_up_unwanted.ensures.goes
       | else-matches w ↦ rw w.self-is (goes_same _)
     ] in
-    goes_then _ _ _ c.tick.ensures.goes (rw c.self.view_is at (goes_then _ _ _ c.read_client-heard.ensures.goes (goes_then _ _ _ c.note_half_read.ensures.goes (goes_then _ _ _ after c.note.ensures.goes))))
+    goes_then _ _ _ c.tick.ensures.goes (goes_then _ _ _ c.read_client-heard.ensures.goes (goes_then _ _ _ after c.note.ensures.goes))
 
 pub returns-clause-told : goal.returns-clause-told
 returns-clause-told g c =
-    let same : c.if-matches.self.side.told ≡ c.note_half_read.new.self.side.told = elim c.if-matches.branch [
+    let same : c.if-matches.self.side.told ≡ c.read_client-heard.new.self.side.told = elim c.if-matches.branch [
       | then-matches w ↦ rw w.self-is w.give_up_unwanted.ensures.told
       | else-matches w ↦ rw w.self-is refl
     ] in
-    λ u is. rw (c.note.ensures.told, same, c.note_half_read.ensures.told, c.read_client-heard.ensures.told, c.self.view_is) (c.tick.ensures.told u is)
+    λ u is. rw (c.note.ensures.told, same, c.read_client-heard.ensures.told) (c.tick.ensures.told u is)
 
-pub returns-in_default-clause-goes : goal.returns-in_default-clause-goes
-returns-in_default-clause-goes g c = rw c.self.view_is c.tick.ensures.goes
+pub returns-then-eq-2-clause-goes : goal.returns-then-eq-2-clause-goes
+returns-then-eq-2-clause-goes g c = goes_then _ _ _ c.tick.ensures.goes (goes_then _ _ _ c.read_client-heard.ensures.goes c.forget_client.ensures.goes)
 
-pub returns-in_default-clause-told : goal.returns-in_default-clause-told
-returns-in_default-clause-told g c = λ u is. rw c.self.view_is (c.tick.ensures.told u is)
+pub returns-then-eq-2-clause-told : goal.returns-then-eq-2-clause-told
+returns-then-eq-2-clause-told g c = λ u is. rw (c.forget_client.ensures.told, c.read_client-heard.ensures.told) (c.tick.ensures.told u is)

@@ -1,0 +1,9 @@
+use Rattle.backend_pool.proofs.Lemmas.{ℕ, List, None}
+use Rattle.std.specs.Io.KnownBytes.{Consumes}
+use Rattle.http_pieces.specs.ReplyReader.{HasReadReply}
+use Rattle.backend_pool.proofs.remote.receive.Given as goal
+
+-- all bytes that were read were taken: they are no whole reply
+abbrev pub invariant-loop-read : goal.invariant-loop-read
+invariant-loop-read g l =
+    (bytes : List ℕ) × Consumes (g.R.Read.remaining l.fn.reader) (g.R.Read.remaining l.reader) bytes × HasReadReply l.exchange.replies bytes None

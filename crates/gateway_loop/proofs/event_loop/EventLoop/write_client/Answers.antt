@@ -1,0 +1,32 @@
+use Rattle.gateway_loop.proofs.AskLemmas.{goes_then}
+use Rattle.gateway_loop.proofs.event_loop.EventLoop.write_client.Goals as goal
+
+pub returns-else-is_to_be_read-clause-goes : goal.returns-else-is_to_be_read-clause-goes
+returns-else-is_to_be_read-clause-goes g c = c.write_replies-written.ensures.goes
+
+pub returns-else-is_to_be_read-clause-told : goal.returns-else-is_to_be_read-clause-told
+returns-else-is_to_be_read-clause-told g c = c.write_replies-written.ensures.told
+
+pub returns-then-eq-2-clause-goes : goal.returns-then-eq-2-clause-goes
+returns-then-eq-2-clause-goes g c = goes_then _ _ _ c.write_replies-written.ensures.goes c.drop_client.ensures.goes
+
+pub returns-then-eq-2-clause-told : goal.returns-then-eq-2-clause-told
+returns-then-eq-2-clause-told g c = λ u is. rw c.drop_client.ensures.told (c.write_replies-written.ensures.told u is)
+
+pub returns-then-is_to_leave-clause-goes : goal.returns-then-is_to_leave-clause-goes
+returns-then-is_to_leave-clause-goes g c = goes_then _ _ _ c.write_replies-written.ensures.goes c.leave.ensures.goes
+
+pub returns-then-is_to_leave-clause-told : goal.returns-then-is_to_leave-clause-told
+returns-then-is_to_leave-clause-told g c = λ u is. rw c.leave.ensures.told (c.write_replies-written.ensures.told u is)
+
+pub returns-then-eq-3-clause-goes : goal.returns-then-eq-3-clause-goes
+returns-then-eq-3-clause-goes g c = goes_then _ _ _ c.write_replies-written.ensures.goes c.line_up-then-eq-3.ensures.goes
+
+pub returns-then-eq-3-clause-told : goal.returns-then-eq-3-clause-told
+returns-then-eq-3-clause-told g c = λ u is. rw c.line_up-then-eq-3.ensures.told (c.write_replies-written.ensures.told u is)
+
+pub returns-then-may_read-clause-goes : goal.returns-then-may_read-clause-goes
+returns-then-may_read-clause-goes g c = c.line_up.ensures.goes
+
+pub returns-then-may_read-clause-told : goal.returns-then-may_read-clause-told
+returns-then-may_read-clause-told g c = λ u is. rw c.line_up.ensures.told is
