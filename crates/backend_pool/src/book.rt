@@ -16,7 +16,7 @@ ghost use Rattle.gateway_theory.specs.Served.{Served};
 ghost use Rattle.gateway_model.specs.Starts.{Placed, occurrences};
 ghost use Rattle.gateway_model.specs.History.{History, no_history};
 ghost use Rattle.backend_pool.specs.declared.next_reply.NextReply.{NextReply};
-ghost use Rattle.backend_pool.specs.Book.{book_value, BookStands, GivesJob, HandsJobs, HandsReply, job_list, most_total, OpensFew, reply_given, TakesEvent, TakesOpening, TellsPiece, totals_of};
+ghost use Rattle.backend_pool.specs.Book.{book_value, BookStands, BookValue, GivesJob, HandsJobs, HandsReply, IsReached, job_list, most_total, OpensFew, reply_given, TakesEvent, TakesOpening, TellsPiece, totals_of};
 
 use crate::counter::{Blanks, Counter, LedgerFull, Shares, Totals};
 use crate::next_reply::NextReply;
@@ -56,8 +56,6 @@ impl<H: Drop, L: Ledger, J: Ledger, K: Ledger> Drop for Book<H, L, J, K> {
 }
 
 impl<H, L: Ledger, J: Ledger, K: Ledger> Model for Book<H, L, J, K> {
-    ghost use Rattle.backend_pool.specs.Book.{BookValue, IsReached, book_value};
-
     ghost Value = { BookValue };
 
     ghost view = { λ b. book_value b.core b.bytes b.jobs b.results };
@@ -285,8 +283,11 @@ impl<H: ReplyHook + Drop, L: Ledger, J: Ledger, K: Ledger> Book<H, L, J, K> {
         ensures only { TakesOnly conn self.old.core self.new.core }
         ensures counts { self.new ≡ record self.old { core = self.new.core } }
     {
-        let reply = self.core.take_reply(conn);
-        NextReply::of(reply, self.core.ended(conn))
+        match self.core.take_reply(conn) {
+            Some(reply) => NextReply::Ready(reply),
+            None if self.core.ended(conn) => NextReply::Over,
+            None => NextReply::Pending,
+        }
     }
 
     /// What holds of the core whenever its lock is free. At most 64 connections are open, and no more than 8 requests

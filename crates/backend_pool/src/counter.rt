@@ -1,4 +1,4 @@
-ghost use Rattle.std.specs.Prelude.{◌≡◌, ◌+◌, ◌<◌, ◌≤◌, IsTrue, ◌↔◌};
+ghost use Rattle.std.specs.Prelude.{◌≡◌, ◌+◌, ◌<◌, ◌≤◌, ℕ, IsTrue, ◌↔◌};
 ghost use Rattle.backend_pool.specs.Book.{most_total};
 
 use std::marker::Model;
@@ -21,9 +21,6 @@ pub struct Counter<L: Ledger> {
 }
 
 impl<L: Ledger> Model for Counter<L> {
-    ghost use Rattle.std.specs.Prelude.{◌≡◌, ◌≤◌, ℕ};
-    ghost use Rattle.backend_pool.specs.Book.{most_total};
-
     ghost Value = { ℕ };
 
     ghost view = { λ c. c.total };

@@ -71,9 +71,7 @@ impl<H: ReplyHook + Drop, L: Ledger, J: Ledger, K: Ledger> Desk for LockDesk<'_,
     fn next<R: Clock + Wait>(&mut self, rt: &R) -> Option<Job> {
         let mut state = self.shared.state.lock(rt);
         for _ in rt.forever() {
-            let Ok(job) = state.book.take_job(&mut self.shares.jobs) else {
-                return None;
-            };
+            let job = state.book.take_job(&mut self.shares.jobs).ok()?;
             if job.is_some() || state.shut {
                 return job;
             }

@@ -10,7 +10,7 @@ use branch_exchange::{Asked, Exchange, MOST_READS};
 use connect_codec::{BranchAsk, branch_request};
 use gateway_core::Job;
 use http_pieces::Bytes;
-use std::alloc::{AllocError, Global};
+use std::alloc::Global;
 use std::cell::RefCell;
 use std::io::{self, ErrorKind, Read, Write};
 use std::net::{Net, OpenStream, TcpStream, ToSocketAddrs};
@@ -39,9 +39,12 @@ impl RemoteBackend {
         let longer = deadline?.saturating_add(GRACE);
         self.start.checked_add(Duration::from_millis(longer))
     }
+}
 
-    /// The request that asks for the job.
-    fn request_of(&self, job: &Job) -> Result<Bytes, AllocError> {
+impl Backend for RemoteBackend {
+    ghost gives = { λ job asked. Unit {0} };
+
+    fn ask<R: Net + Clock>(&self, rt: &R, job: &Job) -> Asked {
         let ask = BranchAsk {
             address: job.address(),
             path: job.path(),
@@ -49,15 +52,7 @@ impl RemoteBackend {
             request_id: job.request_id(),
             body: job.body(),
         };
-        branch_request(self.alloc, &ask)
-    }
-}
-
-impl Backend for RemoteBackend {
-    ghost gives = { λ job asked. Unit {0} };
-
-    fn ask<R: Net + Clock>(&self, rt: &R, job: &Job) -> Asked {
-        let Ok(request) = self.request_of(job) else {
+        let Ok(request) = branch_request(self.alloc, &ask) else {
             return Asked::NoMemory;
         };
         let until = self.until(job.deadline());

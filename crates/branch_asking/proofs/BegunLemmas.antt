@@ -1,7 +1,7 @@
 -- What a job that is asked for has begun.
 use Rattle.branch_asking.proofs.Words.{◌≡◌, ℕ, Bool, true, false, List, [], ◌∷◌, ◌++◌, All, map, Option, None, Some, refl, sym, ap, ◌∙◌, subst, is_some, All-nil, All-push, map-append, HandedJob, IsPrefixOf, AsksOn, BeginsRequest, IsAddressOf, IsUntouched, StreamValue, inl, inr, request_of, stream_value, SocketAddr, AddressesValue, AreOf, addresses_value, next_of, Asks, AskingState, AttemptValue, HadStream, HasBegun, HasEnded, HasGrown, IsUnsent, IsUntouchedAttempt, asked_for, asking_state, attempt_value}
 use Rattle.std.proofs.lemmas.Bool.Decides.{nat_tests}
-use Rattle.std.proofs.Common.{arith}
+use Rattle.std.proofs.Common.{arith, ◌⊎◌, ⊎_elim}
 use Rattle.gateway_theory.specs.lemmas.PastLemmas.{prefix-refl}
 use Rattle.http_pieces.specs.ReplyReader.{HasReadReply}
 use Rattle.branch_exchange.specs.declared.exchange_end.Loss.{Loss}
@@ -29,18 +29,22 @@ no_peer : (a : SocketAddr) → None ≡ Some a → ⊥
 no_peer a e = cc
 
 module _ (job : HandedJob) (addresses : AddressesValue) (x : AttemptValue) where
-  -- there is no memory for its request
-  pub starved_begins : (items : List (StreamValue × Bool)) → items ≡ [] → addresses ≡ addresses_value None [] [] → x.peer ≡ None → IsUntouchedAttempt x
-      → HasBegun (asking_state job addresses x (Some ends.NoMemory) items)
-  starved_begins items none new alone fresh = record {
+  -- it begins, or there is no memory for its request
+  pub new_begins : (end : Option ExchangeEnd) (items : List (StreamValue × Bool)) → items ≡ [] → addresses ≡ addresses_value None [] [] → x.peer ≡ None → IsUntouchedAttempt x
+      → (end ≡ Some ends.NoMemory) ⊎ ((end ≡ None) × Asks (request_of job.job) x) → HasBegun (asking_state job addresses x end items)
+  new_begins end items none new alone fresh begins = record {
     untouched = subst (λ (l : List (StreamValue × Bool)). All IsUntouched (map (λ (t : StreamValue × Bool). t.0) l)) (sym none) (All-nil IsUntouched);
     addressed = record { peer = λ a is. absurd (no_peer a (sym alone ∙ is)); none = λ is. fresh.0 };
     given = subst (λ (v : AddressesValue). AreOf job.job.address v) (sym new) (new_are job.job.address);
-    asks = λ e. absurd (some_none ends.NoMemory e);
-    ended = λ end is. record {
-      prefix = (request_of job.job, ap (λ (t : List ℕ). t ++ request_of job.job) (sym fresh.0));
-      whole = λ reply replies. absurd (no_reply reply (some_end ends.NoMemory end is ∙ replies));
-    };
+    asks = λ e. ⊎_elim (λ (starved : end ≡ Some ends.NoMemory). absurd (some_none ends.NoMemory (sym starved ∙ e))) (λ (goes : (end ≡ None) × Asks (request_of job.job) x). goes.1) begins;
+    ended = λ e is.
+        ⊎_elim
+        (λ (starved : end ≡ Some ends.NoMemory). record {
+          prefix = (request_of job.job, ap (λ (t : List ℕ). t ++ request_of job.job) (sym fresh.0));
+          whole = λ reply replies. absurd (no_reply reply (some_end ends.NoMemory e (sym starved ∙ is) ∙ replies));
+        })
+        (λ (goes : (end ≡ None) × Asks (request_of job.job) x). absurd (some_none e (sym is ∙ goes.0)))
+        begins;
   }
 
   -- it goes on

@@ -68,21 +68,16 @@ impl<W: Wire> Asking<W> {
         ensures job { result.job ≡ job }
         ensures over { IfSome result.end (λ end. end ≡ ExchangeEnd.NoMemory) }
     {
-        match request_of(alloc, &job) {
-            Ok(request) => Asking {
-                job,
-                addresses: Addresses::new(alloc),
-                attempt: Attempt::new(alloc, request),
-                end: None,
-                tried: Log::new(),
-            },
-            Err(_) => Asking {
-                job,
-                addresses: Addresses::new(alloc),
-                attempt: Attempt::new(alloc, Bytes::new(alloc)),
-                end: Some(ExchangeEnd::NoMemory),
-                tried: Log::new(),
-            },
+        let (request, end) = match request_of(alloc, &job) {
+            Ok(request) => (request, None),
+            Err(_) => (Bytes::new(alloc), Some(ExchangeEnd::NoMemory)),
+        };
+        Asking {
+            job,
+            addresses: Addresses::new(alloc),
+            attempt: Attempt::new(alloc, request),
+            end,
+            tried: Log::new(),
         }
     }
 
@@ -113,10 +108,7 @@ impl<W: Wire> Asking<W> {
     pub fn status(&self) -> Option<u16>
         ensures { result ≡ option_and_then status_of_end self.now.end }
     {
-        match &self.end {
-            Some(end) => status_of_end(end),
-            None => None,
-        }
+        status_of_end(self.end.as_ref()?)
     }
 
     /// Its exchange, and the stream that it goes over.
@@ -179,7 +171,7 @@ impl<W: Wire> Asking<W> {
             Step::More => Progress::More,
             Step::Refused(kind) => Progress::Refused(kind),
             Step::Ended(end) => {
-                set_end(&mut self.end, end);
+                self.end = Some(end);
                 Progress::Ended
             }
         }
@@ -192,10 +184,7 @@ impl<W: Wire> Asking<W> {
         ensures ended { MatchOption loss (self.new.end ≡ Some ExchangeEnd.NoMemory)
             (λ loss. self.new.end ≡ Some (ExchangeEnd.Lost loss)) }
     {
-        match loss {
-            Some(loss) => set_end(&mut self.end, ExchangeEnd::Lost(loss)),
-            None => set_end(&mut self.end, ExchangeEnd::NoMemory),
-        }
+        self.end = Some(loss.map_or(ExchangeEnd::NoMemory, ExchangeEnd::Lost));
     }
 
     /// The outcome that is to be recorded; None for want of memory. One that has not ended is lost.
@@ -206,7 +195,7 @@ impl<W: Wire> Asking<W> {
         ensures tells { (end : ExchangeEnd) → self.old.end ≡ Some end
             → IfSome result (λ outcome. outcome_of_asked (asked_of end) ≡ Some outcome) }
     {
-        match take_end(&mut self.end) {
+        match mem::replace(&mut self.end, Some(ExchangeEnd::NoMemory)) {
             Some(end) => outcome_of(alloc, end.asked()),
             None => outcome_of(alloc, branch_exchange::Asked::Lost),
         }
@@ -241,21 +230,6 @@ impl<W: Wire + Drop> Asking<W> {
     {
         self.job
     }
-}
-
-/// It ended so.
-fn set_end(end: &mut Option<ExchangeEnd>, now: ExchangeEnd)
-    ensures { end.new ≡ Some now }
-{
-    *end = Some(now);
-}
-
-/// How it ended. It is over.
-fn take_end(end: &mut Option<ExchangeEnd>) -> Option<ExchangeEnd>
-    ensures taken { result ≡ end.old }
-    ensures over { end.new ≡ Some ExchangeEnd.NoMemory }
-{
-    mem::replace(end, Some(ExchangeEnd::NoMemory))
 }
 
 /// The request that asks for the job.

@@ -1,6 +1,6 @@
 ghost use Rattle.std.specs.Prelude.{◌≡◌, ◌++◌, ◌≤◌, [], ℕ, List, Some, None, IsTrue, IfOk, ◌↔◌, drop, length};
 ghost use Rattle.http_pieces.specs.ReplyReader.{HasReadReply};
-ghost use Rattle.branch_exchange.specs.Exchange.{ComesTo, TakesIn, exchange_value, loss_in};
+ghost use Rattle.branch_exchange.specs.Exchange.{ComesTo, ExchangeValue, TakesIn, exchange_value, loss_in};
 
 use crate::exchange_end::{ExchangeEnd, Loss};
 use http_pieces::laws::reply_cut_law;
@@ -23,8 +23,6 @@ pub struct Exchange {
 }
 
 impl Model for Exchange {
-    ghost use Rattle.branch_exchange.specs.Exchange.{ExchangeValue, exchange_value};
-
     ghost Value = { ExchangeValue };
 
     ghost view = { λ e. exchange_value e.request e.replies };

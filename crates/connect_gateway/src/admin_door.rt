@@ -10,7 +10,7 @@ use admin::{
 };
 use http_pieces::Bytes;
 use mio::net::{TcpListener, TcpStream};
-use mio::{Events, Interest, Poll, Registry, Token};
+use mio::{Events, Interest, Poll, Token};
 use std::alloc::{AllocError, Global};
 use std::io::{self, ErrorKind};
 use std::marker::Model;
@@ -33,6 +33,7 @@ const PAUSE: u64 = 10;
 const DOOR: usize = 2;
 
 /// Where operators ask: it tells figures and whether streams are accepted, and begins a drain.
+#[derive(Drop)]
 pub(crate) struct AdminDoor {
     alloc: Global,
     listener: TcpListener,
@@ -44,21 +45,6 @@ pub(crate) struct AdminDoor {
     names: Arc<ServedNames>,
     // how many lines of the log were left out
     dropped: Arc<AtomicU64>,
-}
-
-// by hand, so that a drop is one call, where a derived one is written out at each return
-impl Drop for AdminDoor {
-    fn drop(self) {
-        let AdminDoor {
-            alloc: _,
-            listener: _,
-            visitors: _,
-            again: _,
-            drain: _,
-            names: _,
-            dropped: _,
-        } = self;
-    }
 }
 
 // Clauses see nothing of it, which keeps proofs small.
@@ -89,8 +75,9 @@ impl AdminDoor {
     }
 
     /// Has its listener waited for.
-    pub(crate) fn watch(&mut self, registry: &Registry) -> io::Result<()> {
-        registry.register(&mut self.listener, Token(DOOR), Interest::READABLE)
+    pub(crate) fn watch(&mut self, poll: &Poll) -> io::Result<()> {
+        poll.registry()
+            .register(&mut self.listener, Token(DOOR), Interest::READABLE)
     }
 
     /// Serves those that a wait told of, at that moment, and lets go of those whose time is over. `readiness` is that
@@ -111,10 +98,8 @@ impl AdminDoor {
                 self.serve(rt, sides, now, token - DOOR - 1);
             }
         }
-        if let Some(again) = self.again {
-            if again <= now.moment {
-                self.let_in(poll, now.moment);
-            }
+        if self.again.is_some_and(|again| again <= now.moment) {
+            self.let_in(poll, now.moment);
         }
         self.expire(now.moment);
     }
@@ -127,11 +112,8 @@ impl AdminDoor {
                 next = sooner(next, Some(visitor.until));
             }
         }
-        let left = self.drain.time_left(moment);
-        match next {
-            Some(next) => sooner(left, Some(next.saturating_sub(moment))),
-            None => left,
-        }
+        let left = next.map(|next| next.saturating_sub(moment));
+        sooner(self.drain.time_left(moment), left)
     }
 
     /// Accepts who waits. Where somebody may be left, it is looked again.
@@ -164,8 +146,10 @@ impl AdminDoor {
             .registry()
             .register(visitor.stream(), token, interests)
             .is_ok();
-        if is_watched {
-            self.keep(place, visitor);
+        if let Some(free) = self.visitors.get_mut(place) {
+            if is_watched {
+                *free = Some(visitor);
+            }
         }
     }
 
@@ -173,34 +157,18 @@ impl AdminDoor {
         let Some(mut visitor) = self.take(place) else {
             return;
         };
-        if self.attend_to(rt, sides, now, &mut visitor) {
-            self.keep(place, visitor);
-        }
-    }
-
-    /// Hears the visitor, and answers what it asks. Answers whether it stays.
-    fn attend_to<R: Wait>(
-        &mut self,
-        rt: &R,
-        sides: &[Arc<LoopSide>],
-        now: &Now,
-        visitor: &mut Visitor,
-    ) -> bool {
         let mut seen = visitor.hear();
         if let Seen::Asks(asked) = seen {
             let Ok(bytes) = self.answer(rt, sides, now, asked) else {
-                return false;
+                return;
             };
             visitor.answer(bytes);
             seen = visitor.hear();
         }
-        seen == Seen::Stays && visitor.tell() == Seen::Stays
-    }
-
-    /// Puts the visitor into that place.
-    fn keep(&mut self, place: usize, visitor: Visitor) {
-        if let Some(free) = self.visitors.get_mut(place) {
-            *free = Some(visitor);
+        if seen == Seen::Stays && visitor.tell() == Seen::Stays {
+            if let Some(kept) = self.visitors.get_mut(place) {
+                *kept = Some(visitor);
+            }
         }
     }
 
@@ -238,6 +206,7 @@ impl AdminDoor {
         now: &Now,
     ) -> Result<Bytes, AllocError> {
         let (mut totals, mut asked) = self.no_totals()?;
+        let mut loops = Vec::new(self.alloc);
         let mut unserved = now.unserved;
         for side in sides {
             if let Some(counts) = &side.counts {
@@ -245,8 +214,11 @@ impl AdminDoor {
                 counts.add_branches_to(&mut asked);
             }
             unserved = unserved.saturating_add(side.unserved.load(Ordering::SeqCst));
+            loops.push(LoopFigures {
+                connections: side.open.load(Ordering::SeqCst),
+                exchanges: side.standing(rt).asking as u64,
+            })?;
         }
-        let loops = loop_figures(self.alloc, rt, sides)?;
         let figures = Figures {
             names: &self.names,
             totals: &totals,
@@ -284,22 +256,6 @@ impl AdminDoor {
     }
 }
 
-/// How each of these loops stands.
-fn loop_figures<R: Wait>(
-    alloc: Global,
-    rt: &R,
-    sides: &[Arc<LoopSide>],
-) -> Result<Vec<LoopFigures>, AllocError> {
-    let mut loops = Vec::new(alloc);
-    for side in sides {
-        loops.push(LoopFigures {
-            connections: side.open.load(Ordering::SeqCst),
-            exchanges: side.standing(rt).asking as u64,
-        })?;
-    }
-    Ok(loops)
-}
-
 /// Places for visitors, all of them free.
 fn places(alloc: Global) -> Result<Vec<Option<Visitor>>, AllocError> {
     let mut visitors = Vec::with_capacity(alloc, VISITORS)?;
@@ -310,7 +266,7 @@ fn places(alloc: Global) -> Result<Vec<Option<Visitor>>, AllocError> {
 }
 
 /// What is told of the present.
-#[derive(Clone, Copy)]
+#[derive(Clone, Copy, PartialEq, Eq, Debug)]
 pub(crate) struct Now {
     /// The moment, in milliseconds since the start.
     pub(crate) moment: u64,

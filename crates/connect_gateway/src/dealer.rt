@@ -40,53 +40,18 @@ const WAKER: Token = Token(1);
 /// As many sockets may be told of at once as there may be.
 const EVENTS: usize = 32;
 
-/// What main waits with.
-#[derive(Drop)]
-pub(crate) struct Waits {
-    poll: Poll,
-    events: Events,
-    /// What wakes main.
-    pub(crate) waker: Arc<Waker>,
-}
-
-impl Waits {
-    /// For streams of this listener, and for who comes to that door.
-    fn new<R: Net>(
-        rt: &R,
-        alloc: Global,
-        listener: &mut TcpListener,
-        door: &mut Option<AdminDoor>,
-    ) -> Result<Waits, Fault> {
-        let poll = Poll::new(rt)?;
-        let registry = poll.registry();
-        registry.register(listener, LISTENER, Interest::READABLE)?;
-        if let Some(door) = door {
-            door.watch(registry)?;
-        }
-        let waker = Waker::new(registry, WAKER)?;
-        Ok(Waits {
-            events: Events::with_capacity(alloc, EVENTS)?,
-            waker: Arc::new(alloc, waker)?,
-            poll,
-        })
-    }
-
-    /// Waits for so many milliseconds at most.
-    fn wait(&mut self, most: Option<u64>) -> io::Result<()> {
-        self.poll
-            .poll(&mut self.events, most.map(Duration::from_millis))
-    }
-}
-
 /// Accepts streams and deals them to the loops, and attends to the address for operators, if there is one.
+#[derive(Drop)]
 pub(crate) struct Dealer<M> {
     rt: M,
     alloc: Global,
     clock: SinceStart,
     // none once nobody listens any more
     listener: Option<TcpListener>,
-    /// What it waits with.
-    pub(crate) waits: Waits,
+    poll: Poll,
+    events: Events,
+    /// What wakes main.
+    pub(crate) waker: Arc<Waker>,
     /// What the loops share with main.
     pub(crate) sides: Vec<Arc<LoopSide>>,
     admin: Option<AdminDoor>,
@@ -95,24 +60,6 @@ pub(crate) struct Dealer<M> {
     unserved: u64,
     // the stage of a drain that the loops know
     stage: Stage,
-}
-
-// by hand, so that a drop is one call, where a derived one is written out at each return
-impl<M: Drop> Drop for Dealer<M> {
-    fn drop(self) {
-        let Dealer {
-            rt: _,
-            alloc: _,
-            clock: _,
-            listener: _,
-            waits: _,
-            sides: _,
-            admin: _,
-            log: _,
-            unserved: _,
-            stage: _,
-        } = self;
-    }
 }
 
 // Clauses see nothing of it, which keeps proofs small.
@@ -128,19 +75,25 @@ impl<M: Host + Net> Dealer<M> {
         rt: M,
         alloc: Global,
         clock: SinceStart,
-        listener: TcpListener,
-        admin: Option<AdminDoor>,
+        mut listener: TcpListener,
+        mut admin: Option<AdminDoor>,
         log: Option<LogLines>,
     ) -> Result<Dealer<M>, Fault> {
-        let mut listener = listener;
-        let mut admin = admin;
-        let waits = Waits::new(&rt, alloc, &mut listener, &mut admin)?;
+        let poll = Poll::new(&rt)?;
+        poll.registry()
+            .register(&mut listener, LISTENER, Interest::READABLE)?;
+        if let Some(door) = &mut admin {
+            door.watch(&poll)?;
+        }
+        let waker = Waker::new(poll.registry(), WAKER)?;
         Ok(Dealer {
             rt,
             alloc,
             clock,
             listener: Some(listener),
-            waits,
+            events: Events::with_capacity(alloc, EVENTS)?,
+            waker: Arc::new(alloc, waker)?,
+            poll,
             sides: Vec::new(alloc),
             admin,
             log,
@@ -190,22 +143,25 @@ impl<M: Host + Net> Dealer<M> {
                 return Err(Fault::Io);
             }
             match self.accept() {
-                Accepted::Stream => {
+                Ok(Accepted::Stream(stream)) => {
+                    if let Err(why) = self.deal(stream) {
+                        self.tell_unserved(why);
+                    }
                     dealt += 1;
                     tries = 0;
                     if dealt % MANY == 0 {
                         self.look();
                     }
                 }
-                Accepted::Nothing => tries = 0,
-                Accepted::NoMore => return Ok(()),
+                Ok(Accepted::Nothing) => tries = 0,
+                Ok(Accepted::NoMore) => return Ok(()),
                 // in a drain nobody is waited for
-                Accepted::Failed if self.stage == Stage::Closes => return Ok(()),
-                Accepted::Failed if tries >= MOST_TRIES => return Err(Fault::Io),
-                Accepted::Failed => {
+                Err(_) if self.stage == Stage::Closes => return Ok(()),
+                Err(_) if tries >= MOST_TRIES => return Err(Fault::Io),
+                Err(_) => {
                     thread::sleep(&rt, Duration::from_millis(PAUSE));
                     self.look();
-                    let is_asking = self.is_asking();
+                    let is_asking = self.sides.iter().any(|side| side.standing(&rt).asking > 0);
                     tries = tries.saturating_add(u32::from(!is_asking));
                 }
             }
@@ -213,38 +169,23 @@ impl<M: Host + Net> Dealer<M> {
         unreachable!()
     }
 
-    /// Deals the next stream. Where none waits it is waited for one, for the end of a loop or for an operator, unless
-    /// nobody is to listen any more.
-    fn accept(&mut self) -> Accepted {
+    /// The next stream. Where none waits it is waited for one, for the end of a loop or for an operator, unless nobody
+    /// is to listen any more.
+    fn accept(&mut self) -> io::Result<Accepted> {
         let Some(listener) = &self.listener else {
-            return Accepted::NoMore;
+            return Ok(Accepted::NoMore);
         };
         match listener.accept() {
-            Ok((stream, _peer)) => {
-                self.deal(stream);
-                Accepted::Stream
-            }
+            Ok((stream, _peer)) => Ok(Accepted::Stream(stream)),
             Err(error) if error.kind() == ErrorKind::WouldBlock => {
                 if self.stage == Stage::Closes {
-                    return Accepted::NoMore;
+                    return Ok(Accepted::NoMore);
                 }
-                match self.wait(None) {
-                    Ok(()) => Accepted::Nothing,
-                    Err(_) => Accepted::Failed,
-                }
+                self.wait(None)?;
+                Ok(Accepted::Nothing)
             }
-            Err(_) => Accepted::Failed,
+            Err(error) => Err(error),
         }
-    }
-
-    /// Whether a backend is asked.
-    fn is_asking(&self) -> bool {
-        for side in &self.sides {
-            if side.standing(&self.rt).asking > 0 {
-                return true;
-            }
-        }
-        false
     }
 
     /// Attends to operators, if there are some, without a wait.
@@ -257,19 +198,17 @@ impl<M: Host + Net> Dealer<M> {
     /// Waits for so many milliseconds at most, attends to operators, and tells the loops how far a drain is.
     fn wait(&mut self, most: Option<u64>) -> io::Result<()> {
         let moment = self.clock.now(&self.rt);
-        let left = match &self.admin {
-            Some(door) => door.time_left(moment),
-            None => None,
-        };
-        self.waits.wait(sooner(most, left))?;
+        let left = self.admin.as_ref().and_then(|door| door.time_left(moment));
+        let timeout = sooner(most, left);
+        self.poll
+            .poll(&mut self.events, timeout.map(Duration::from_millis))?;
         let now = Now {
             moment: self.clock.now(&self.rt),
             readiness: self.readiness(),
             unserved: self.unserved,
         };
         if let Some(door) = &mut self.admin {
-            let waits = &self.waits;
-            door.attend(&self.rt, &waits.poll, &waits.events, &self.sides, &now);
+            door.attend(&self.rt, &self.poll, &self.events, &self.sides, &now);
         }
         self.follow_drain();
         Ok(())
@@ -308,15 +247,8 @@ impl<M: Host + Net> Dealer<M> {
         self.sides.iter().all(|side| side.is_over())
     }
 
-    /// Hands a stream to a loop. That it is closed instead is told.
-    fn deal(&mut self, stream: TcpStream) {
-        if let Err(why) = self.hand_out(stream) {
-            self.tell_unserved(why);
-        }
-    }
-
     /// Hands a stream to the loop with the fewest connections. One for which there is no place or no memory is closed.
-    fn hand_out(&self, stream: TcpStream) -> Result<(), Unserved> {
+    fn deal(&self, stream: TcpStream) -> Result<(), Unserved> {
         let side = self.emptiest().ok_or(Unserved::NoPlace)?;
         self.hand_to(side, stream).ok_or(Unserved::NoMemory)
     }
@@ -353,16 +285,13 @@ impl<M: Host + Net> Dealer<M> {
 }
 
 /// What accepting came to.
-#[derive(Clone, Copy)]
+#[derive(Drop)]
 enum Accepted {
-    /// A stream, which was dealt.
-    Stream,
+    Stream(TcpStream),
     /// None waited, and a wait is over.
     Nothing,
     /// None waits, and no more are to be accepted.
     NoMore,
-    /// It failed, or the wait did.
-    Failed,
 }
 
 /// The shorter of two times, of which either may be absent.

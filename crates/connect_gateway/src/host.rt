@@ -17,7 +17,7 @@ pub(crate) trait NetHost: Host + Net<Listener = TcpListener, Stream = TcpStream>
 impl<M: Host + Net<Listener = TcpListener, Stream = TcpStream>> NetHost for M {}
 
 /// The milliseconds since the program began to serve.
-#[derive(Clone, Copy)]
+#[derive(Clone, Copy, Debug)]
 pub(crate) struct SinceStart {
     start: Instant,
     latest: u64,

@@ -28,23 +28,12 @@ const GATHERS: u64 = 5;
 
 /// Writes the lines of the log to standard error, those that wait by one write, and every ten seconds how the gateway
 /// stands. Where a write fails its lines are left out.
+#[derive(Drop)]
 pub(crate) struct LogWriter {
     alloc: Global,
     pub(crate) lines: Receiver<String>,
     dropped: Arc<AtomicU64>,
     sides: Vec<Arc<LoopSide>>,
-}
-
-// by hand, so that a drop is one call, where a derived one is written out at each return
-impl Drop for LogWriter {
-    fn drop(self) {
-        let LogWriter {
-            alloc: _,
-            lines: _,
-            dropped: _,
-            sides: _,
-        } = self;
-    }
 }
 
 // Clauses see nothing of it, which keeps proofs small.
@@ -75,11 +64,9 @@ impl LogWriter {
         ))
     }
 
-    /// It tells of these loops too, by what they share.
-    pub(crate) fn tell_of(&mut self, sides: &[Arc<LoopSide>]) -> Result<(), AllocError> {
-        for side in sides {
-            self.sides.push(Arc::try_clone(side)?)?;
-        }
+    /// One more loop, by what it shares.
+    pub(crate) fn add(&mut self, side: &Arc<LoopSide>) -> Result<(), AllocError> {
+        self.sides.push(Arc::try_clone(side)?)?;
         Ok(())
     }
 
@@ -176,12 +163,9 @@ fn sum<R: Wait>(rt: &R, all: &mut Standing, side: &LoopSide) {
 /// The time up to the next telling of how it stands, if that was told then last.
 fn time_left<R: Clock>(rt: &R, told: Option<Instant>) -> Duration {
     let pause = Duration::from_millis(PAUSE);
-    let Some(told) = told else {
-        return pause;
-    };
-    match told.elapsed(rt) {
-        Ok(passed) => pause.saturating_sub(passed),
-        Err(_) => pause,
+    match told.map(|told| told.elapsed(rt)) {
+        Some(Ok(passed)) => pause.saturating_sub(passed),
+        _ => pause,
     }
 }
 

@@ -126,7 +126,7 @@ impl LoopLog {
         let Some(request_id) = request_id else {
             return;
         };
-        if self.place_of(&call).is_some() {
+        if self.ids.iter().any(|kept| kept.0 == call) {
             return;
         }
         if self.ids.len() >= MOST_IDS {
@@ -139,12 +139,7 @@ impl LoopLog {
 
     /// The request id of a call whose reply is told.
     fn take_id(&mut self, call: &CallId) -> Option<Text> {
-        let place = self.place_of(call)?;
+        let place = self.ids.iter().position(|kept| kept.0 == *call)?;
         Some(self.ids.remove(place)?.1)
-    }
-
-    /// Where the request id of a call is kept.
-    fn place_of(&self, call: &CallId) -> Option<usize> {
-        self.ids.iter().position(|kept| kept.0 == *call)
     }
 }

@@ -92,13 +92,10 @@ impl LoopSide {
 
     /// Hands something in, and wakes the loop. Hands it back where the loop is over, and where there is no memory.
     pub(crate) fn hand_in<R: Wait>(&self, rt: &R, mail: Mail) -> Result<(), Mail> {
-        match self.mail.send(rt, mail) {
-            Ok(()) => {
-                self.wake();
-                Ok(())
-            }
-            Err(refused) => Err(refused.into_inner()),
-        }
+        let sent = self.mail.send(rt, mail);
+        sent.map_err(|refused| refused.into_inner())?;
+        self.wake();
+        Ok(())
     }
 
     /// No more streams will come: the loop ends once its clients have gone.

@@ -30,6 +30,7 @@ const MOST_FAILURES: u32 = 300;
 const MOST_MAIL: usize = 64;
 
 /// What all loops of a program share.
+#[derive(Drop)]
 pub(crate) struct Common<M> {
     pub(crate) rt: M,
     pub(crate) alloc: Global,
@@ -45,21 +46,6 @@ pub(crate) struct Common<M> {
     pub(crate) main: Arc<Waker>,
 }
 
-// by hand, so that a drop is one call, where a derived one is written out at each return
-impl<M: Drop> Drop for Common<M> {
-    fn drop(self) {
-        let Common {
-            rt: _,
-            alloc: _,
-            clock: _,
-            looked_up: _,
-            lines: _,
-            names: _,
-            main: _,
-        } = self;
-    }
-}
-
 // Clauses see nothing of it, which keeps proofs small.
 impl<M> Model for Common<M> {
     ghost Value = { ⊤ };
@@ -70,8 +56,16 @@ impl<M> Model for Common<M> {
 /// A loop, and what its thread needs to run it.
 #[derive(Drop)]
 pub(crate) struct Looping<M> {
+    rt: M,
     event_loop: EventLoop<PlainHook, Told<Socket>>,
-    outside: Outside<M>,
+    network: MioNetwork<M>,
+    comings: Comings<PlainHook, Told<Socket>>,
+    mail: Receiver<Mail>,
+    /// What it shares with other threads.
+    pub(crate) side: Arc<LoopSide>,
+    main: Arc<Waker>,
+    // whether the drain has ended the calls that were left
+    has_ended_calls: bool,
 }
 
 // Clauses see nothing of it, which keeps proofs small.
@@ -82,108 +76,69 @@ impl<M> Model for Looping<M> {
 }
 
 impl<M: NetHost> Looping<M> {
-    /// The loop with that number, which serves these plans. What it shares with other threads is added to these sides.
-    /// `Io` where the system offers it no sockets to wait for.
-    pub(crate) fn new(
-        common: &Common<M>,
-        worker: u32,
-        plans: Plans,
-        sides: &mut Vec<Arc<LoopSide>>,
-    ) -> Result<Looping<M>, Fault> {
-        let outside = Outside::new(common, worker, sides)?;
+    /// The loop with that number, which serves these plans. `Io` where the system offers it no sockets to wait for.
+    pub(crate) fn new(common: &Common<M>, worker: u32, plans: Plans) -> Result<Looping<M>, Fault> {
+        let poll = Poll::new(&common.rt)?;
+        let waker = Waker::new(poll.registry(), WAKER)?;
+        let names = common.names.as_ref();
+        let counts = names.map(|names| LoopCounts::new(common.alloc, names));
+        let (side, mail) = LoopSide::new(common.alloc, waker, counts.transpose()?)?;
+        let side = Arc::new(common.alloc, side)?;
+        let network = MioNetwork::new(common, worker, poll, &side)?;
+        let mut comings = Comings::new(common.alloc);
+        // room for the mail of a turn
+        comings.streams.reserve(MOST_MAIL)?;
+        comings.found.reserve(MOST_MAIL)?;
+        let main = Arc::try_clone(&common.main)?;
         Ok(Looping {
+            rt: common.rt,
             event_loop: EventLoop::new(common.alloc, plans)?,
-            outside,
+            network,
+            comings,
+            mail,
+            side,
+            main,
+            has_ended_calls: false,
         })
     }
 
     /// Serves clients until main deals no more and all have gone, until a drain cuts them, or until it can't wait for
     /// them any more. Those that are left are closed. Answers whether it did not give up.
-    pub(crate) fn run(self) -> bool {
-        let Looping {
-            mut event_loop,
-            mut outside,
-        } = self;
-        let are_gone = outside.serve(&mut event_loop);
-        outside.side.end();
-        drop(outside.mail);
-        drop(outside.comings);
-        drop(event_loop);
+    pub(crate) fn run(mut self) -> bool {
+        let are_gone = self.serve();
+        self.side.end();
+        drop(self.mail);
+        drop(self.comings);
+        drop(self.event_loop);
         // it can fail only for a counter of the system's that is no more
-        let _ = outside.main.wake();
+        let _ = self.main.wake();
         are_gone
     }
-}
 
-/// What a loop waits for: its sockets, and what other threads tell it.
-#[derive(Drop)]
-struct Outside<M> {
-    rt: M,
-    network: MioNetwork<M>,
-    comings: Comings<PlainHook, Told<Socket>>,
-    mail: Receiver<Mail>,
-    /// What it shares with other threads.
-    side: Arc<LoopSide>,
-    main: Arc<Waker>,
-    // so many waits in a row have failed
-    failures: u32,
-    // whether the drain has ended the calls that were left
-    has_ended_calls: bool,
-}
-
-// Clauses see nothing of it, which keeps proofs small.
-impl<M> Model for Outside<M> {
-    ghost Value = { ⊤ };
-
-    ghost view = { λ _. tt };
-}
-
-impl<M: NetHost> Outside<M> {
-    /// Of the loop with that number. What it shares with other threads is added to these sides.
-    fn new(
-        common: &Common<M>,
-        worker: u32,
-        sides: &mut Vec<Arc<LoopSide>>,
-    ) -> Result<Outside<M>, Fault> {
-        let poll = Poll::new(&common.rt)?;
-        let (side, mail) = side_of(common, &poll, sides)?;
-        let network = MioNetwork::new(common, worker, poll, &side)?;
-        let main = Arc::try_clone(&common.main)?;
-        Ok(Outside {
-            rt: common.rt,
-            network,
-            comings: comings(common.alloc)?,
-            mail,
-            side,
-            main,
-            failures: 0,
-            has_ended_calls: false,
-        })
-    }
-
-    /// Has the loop serve, until it is over or can't wait any more. Answers whether it did not give up.
-    fn serve(&mut self, event_loop: &mut EventLoop<PlainHook, Told<Socket>>) -> bool {
+    fn serve(&mut self) -> bool {
         let rt = self.rt;
+        let mut failures: u32 = 0;
         for _ in rt.forever() {
-            let until = if self.is_due() {
-                Some(0)
-            } else {
-                event_loop.next_turn()
-            };
-            if !self.wait(until) {
-                return false;
+            let until = self.next_turn();
+            match self.network.wait(until, &mut self.comings.ready) {
+                Ok(()) => failures = 0,
+                Err(_) if failures >= MOST_FAILURES => return false,
+                Err(_) => {
+                    failures = failures.saturating_add(1);
+                    thread::sleep(&rt, Duration::from_millis(PAUSE));
+                }
             }
             // what was handed in before main closed it is there by then
             let is_closed = self.side.is_closed();
             let closes_idle = self.side.closes_idle.load(Ordering::SeqCst);
             self.take_mail();
-            event_loop.turn(&mut self.network, &mut self.comings);
+            self.event_loop.turn(&mut self.network, &mut self.comings);
             if closes_idle {
-                self.close_idle(event_loop);
+                self.close_idle();
             }
-            self.side.tell(&rt, event_loop.standing());
-            let are_gone = is_closed && self.mail.is_empty() && event_loop.is_empty();
-            if are_gone || self.is_cut() {
+            self.side.tell(&rt, self.event_loop.standing());
+            let are_gone = is_closed && self.mail.is_empty() && self.event_loop.is_empty();
+            if are_gone || self.side.is_cut.load(Ordering::SeqCst) {
                 return true;
             }
         }
@@ -192,51 +147,33 @@ impl<M: NetHost> Outside<M> {
 
     /// Closes connections to which nothing is owed, of which nothing is unread; and ends the calls that are left, once,
     /// if they are to end.
-    fn close_idle(&mut self, event_loop: &mut EventLoop<PlainHook, Told<Socket>>) {
+    fn close_idle(&mut self) {
         if self.is_to_end_calls() {
             self.has_ended_calls = true;
-            event_loop.drain();
+            self.event_loop.drain();
         }
         // what came meanwhile is read first
-        if self.look().is_ok() {
-            event_loop.turn(&mut self.network, &mut self.comings);
-            if event_loop.next_turn() != Some(0) {
-                event_loop.close_idle();
+        if self.network.wait(Some(0), &mut self.comings.ready).is_ok() {
+            self.event_loop.turn(&mut self.network, &mut self.comings);
+            if self.event_loop.next_turn() != Some(0) {
+                self.event_loop.close_idle();
             }
         }
-    }
-
-    /// Waits, up to that moment if there is one or until the loop is woken. Answers whether it is to go on.
-    fn wait(&mut self, until: Option<u64>) -> bool {
-        if self.network.wait(until, &mut self.comings.ready).is_ok() {
-            self.failures = 0;
-            return true;
-        }
-        if self.failures >= MOST_FAILURES {
-            return false;
-        }
-        self.failures = self.failures.saturating_add(1);
-        thread::sleep(&self.rt, Duration::from_millis(PAUSE));
-        true
-    }
-
-    /// Looks what is ready, without a wait.
-    fn look(&mut self) -> io::Result<()> {
-        self.network.wait(Some(0), &mut self.comings.ready)
-    }
-
-    /// Whether a turn is due though the loop is not woken: a wake-up may have come while it was looked at what came
-    /// meanwhile.
-    fn is_due(&self) -> bool {
-        !self.mail.is_empty() || self.is_to_end_calls() || self.is_cut()
     }
 
     fn is_to_end_calls(&self) -> bool {
         self.side.ends_calls.load(Ordering::SeqCst) && !self.has_ended_calls
     }
 
-    fn is_cut(&self) -> bool {
-        self.side.is_cut.load(Ordering::SeqCst)
+    /// The moment at which a turn is due though the loop is not woken.
+    fn next_turn(&self) -> Option<u64> {
+        // a wake-up may have come while it was looked at what came meanwhile
+        let is_cut = self.side.is_cut.load(Ordering::SeqCst);
+        if self.mail.is_empty() && !self.is_to_end_calls() && !is_cut {
+            self.event_loop.next_turn()
+        } else {
+            Some(0)
+        }
     }
 
     fn take_mail(&mut self) {
@@ -255,32 +192,6 @@ impl<M: NetHost> Outside<M> {
     }
 }
 
-/// What a loop shares with other threads that waits by this poll, which is added to these sides, and what it takes its
-/// mail from.
-fn side_of<M>(
-    common: &Common<M>,
-    poll: &Poll,
-    sides: &mut Vec<Arc<LoopSide>>,
-) -> Result<(Arc<LoopSide>, Receiver<Mail>), Fault> {
-    let waker = Waker::new(poll.registry(), WAKER)?;
-    let counts = match &common.names {
-        Some(names) => Some(LoopCounts::new(common.alloc, names)?),
-        None => None,
-    };
-    let (side, mail) = LoopSide::new(common.alloc, waker, counts)?;
-    let side = Arc::new(common.alloc, side)?;
-    sides.push(Arc::try_clone(&side)?)?;
-    Ok((side, mail))
-}
-
-/// Nothing yet, with room for the mail of a turn.
-fn comings(alloc: Global) -> Result<Comings<PlainHook, Told<Socket>>, AllocError> {
-    let mut comings = Comings::new(alloc);
-    comings.streams.reserve(MOST_MAIL)?;
-    comings.found.reserve(MOST_MAIL)?;
-    Ok(comings)
-}
-
 /// The token of a loop's waker.
 pub(crate) const WAKER: Token = Token(usize::MAX);
 
@@ -288,6 +199,7 @@ pub(crate) const WAKER: Token = Token(usize::MAX);
 const MOST_EVENTS: usize = 256;
 
 /// The sockets of a loop, by `mio`, and what else it needs of the system.
+#[derive(Drop)]
 pub(crate) struct MioNetwork<M> {
     rt: M,
     alloc: Global,
@@ -298,23 +210,6 @@ pub(crate) struct MioNetwork<M> {
     names: Sender<Name>,
     log: Option<LoopLog>,
     told: Log<u64, ()>,
-}
-
-// by hand, so that a drop is one call, where a derived one is written out at each return
-impl<M: Drop> Drop for MioNetwork<M> {
-    fn drop(self) {
-        let MioNetwork {
-            rt: _,
-            alloc: _,
-            poll: _,
-            events: _,
-            clock: _,
-            side: _,
-            names: _,
-            log: _,
-            told: _,
-        } = self;
-    }
 }
 
 impl<M> Model for MioNetwork<M> {
@@ -336,19 +231,16 @@ impl<M: Host> MioNetwork<M> {
     ) -> Result<MioNetwork<M>, AllocError> {
         let side = Arc::try_clone(side)?;
         let names = common.looked_up.clone()?;
-        let events = Events::with_capacity(common.alloc, MOST_EVENTS)?;
-        let log = match &common.lines {
-            Some(lines) => Some(lines.of_loop(common.alloc, worker)?),
-            None => None,
-        };
+        let lines = common.lines.as_ref();
+        let log = lines.map(|lines| lines.of_loop(common.alloc, worker));
         Ok(MioNetwork {
             rt: common.rt,
             alloc: common.alloc,
             clock: common.clock,
             side,
             names,
-            log,
-            events,
+            log: log.transpose()?,
+            events: Events::with_capacity(common.alloc, MOST_EVENTS)?,
             poll,
             told: Log::new(),
         })
@@ -360,7 +252,7 @@ impl<M: Host> MioNetwork<M> {
         ready.clear();
         // the system tells each of them once
         ready.reserve(MOST_EVENTS)?;
-        let timeout = self.time_to(until);
+        let timeout = until.map(|until| self.time_to(until));
         self.poll.poll(&mut self.events, timeout)?;
         for event in &self.events {
             if event.token() != WAKER {
@@ -371,10 +263,9 @@ impl<M: Host> MioNetwork<M> {
         Ok(())
     }
 
-    fn time_to(&mut self, moment: Option<u64>) -> Option<Duration> {
-        let moment = moment?;
+    fn time_to(&mut self, moment: u64) -> Duration {
         let now = self.clock.now(&self.rt);
-        Some(Duration::from_millis(moment.saturating_sub(now)))
+        Duration::from_millis(moment.saturating_sub(now))
     }
 }
 
@@ -409,10 +300,8 @@ impl<M: NetHost> Network<Told<Socket>> for MioNetwork<M> {
     }
 
     fn look_up(&mut self, name: &str) -> bool {
-        match Name::new(self.alloc, name, &self.side) {
-            Ok(name) => self.names.send(&self.rt, name).is_ok(),
-            Err(_) => false,
-        }
+        let name = Name::new(self.alloc, name, &self.side);
+        name.is_ok_and(|name| self.names.send(&self.rt, name).is_ok())
     }
 
     fn tell_reply(&mut self, id: CallId, entry: &ReplyEntry) {

@@ -49,32 +49,22 @@ fn run_words<
         + Input
         + Print,
 >(rt: M) -> Result<(), Fault> {
-    match task(&rt)? {
-        Task::Replay => replay_input(&rt),
-        Task::Serve(service) => serve::serve(rt, &service),
-        Task::Check(checked) => check(&rt, &checked),
-        Task::Version => tell_version(&rt),
-    }
-}
-
-/// What the program's arguments ask for.
-fn task<M: AllocGlobal + Env>(rt: &M) -> Result<Task, Fault> {
     let alloc = rt.alloc();
-    let owned = read_words(rt)?;
+    let owned = read_words(&rt)?;
     let mut words = Vec::new(alloc);
     for word in &owned {
         words.push(word.as_str())?;
     }
-    task_of(alloc, words.as_slice())
-}
-
-/// Runs the script on standard input.
-fn replay_input<M: AllocGlobal + Input + Print>(rt: &M) -> Result<(), Fault> {
-    let _written = replay(rt.alloc(), &mut rt.reader(), io::writer(rt))?;
-    Ok(())
-}
-
-fn tell_version<M: Print>(rt: &M) -> Result<(), Fault> {
-    io::writer(rt).write_all(VERSION.as_bytes())?;
-    Ok(())
+    match task_of(alloc, words.as_slice())? {
+        Task::Replay => {
+            let _written = replay(alloc, &mut rt.reader(), io::writer(&rt))?;
+            Ok(())
+        }
+        Task::Serve(service) => serve::serve(rt, &service),
+        Task::Check(checked) => check(&rt, &checked),
+        Task::Version => {
+            io::writer(&rt).write_all(VERSION.as_bytes())?;
+            Ok(())
+        }
+    }
 }

@@ -3,17 +3,17 @@ use crate::dealer::Dealer;
 use crate::host::{Host, NetHost, SinceStart};
 use crate::log_writer::LogWriter;
 use crate::loop_log::LogLines;
-use crate::loop_side::{LoopSide, Name, resolver};
+use crate::loop_side::resolver;
 use crate::looping::{Common, Looping};
 use crate::start_log::StartLog;
 use admin::{Drain, ServedNames};
 use call_plan::Plans;
 use command_line::{Admin, Log, Service};
-use crossbeam_channel::{Receiver, Sender, unbounded};
+use crossbeam_channel::{Receiver, unbounded};
 use input_files::PlanFile;
 use libc::types::rlimit;
 use libc::{RLIMIT_NOFILE, getrlimit};
-use mio::{Waker, net};
+use mio::net;
 use script_replay::Fault;
 use std::alloc::{AllocError, Global};
 use std::fs::{File, Files};
@@ -49,10 +49,7 @@ pub(crate) fn serve<M: NetHost + AllocGlobal + Files>(
     let _input = hold(&rt);
     let _output = hold(&rt);
     let _error = hold(&rt);
-    serve_file(rt, rt.alloc(), service)
-}
-
-fn serve_file<M: NetHost + Files>(rt: M, alloc: Global, service: &Service) -> Result<(), Fault> {
+    let alloc = rt.alloc();
     let log = StartLog::new(rt, alloc, service.log != Log::Off);
     let file = read_plan_file(&rt, alloc, &log, service.plans.as_str())?;
     let plans = ServedPlans::of(alloc, &file, service.workers)?;
@@ -71,30 +68,18 @@ fn serve_plans<M: NetHost>(
     let clock = SinceStart::new(Instant::now(&rt)?);
     let (lines, writer) = LogWriter::new(alloc, service.log == Log::All)?;
     let dealer = dealer(rt, alloc, log, clock, service, &plans.names, &lines)?;
-    let (looked_up, main) = links(rt, alloc, plans.looks_up, &dealer.waits.waker)?;
     let common = Common {
         rt,
         alloc,
         clock,
-        looked_up,
+        looked_up: resolver(rt, alloc, plans.looks_up)?,
         lines: (service.log != Log::Off).then_some(lines),
         names: service.admin.is_some().then_some(plans.names),
-        main,
+        main: Arc::try_clone(&dealer.waker)?,
     };
     log.listens(service, plans.count);
     let most = service.connections.unwrap_or(u64::MAX);
     serve_with(common, dealer, plans.of_workers, most, writer)
-}
-
-/// Where loops hand in names to be looked up, and what they wake main with.
-fn links<M: NetHost>(
-    rt: M,
-    alloc: Global,
-    looks_up: bool,
-    waker: &Arc<Waker>,
-) -> Result<(Sender<Name>, Arc<Waker>), AllocError> {
-    let looked_up = resolver(rt, alloc, looks_up)?;
-    Ok((looked_up, Arc::try_clone(waker)?))
 }
 
 /// What a plan file gives to those who serve it.
@@ -140,17 +125,12 @@ fn dealer<M: NetHost>(
     names: &Arc<ServedNames>,
     lines: &LogLines,
 ) -> Result<Dealer<M>, Fault> {
-    let told = if service.log == Log::Off {
-        None
-    } else {
-        Some(lines.try_clone()?)
-    };
     let listener = listen(&rt, log, service.listen.as_str())?;
-    let door = match &service.admin {
-        Some(admin) => Some(open_door(&rt, log, alloc, admin, names, lines)?),
-        None => None,
-    };
-    Dealer::new(rt, alloc, clock, listener, door, told)
+    let admin = service.admin.as_ref();
+    let door = admin.map(|admin| open_door(&rt, log, alloc, admin, names, lines));
+    let door = door.transpose()?;
+    let told = (service.log != Log::Off).then(|| lines.try_clone());
+    Dealer::new(rt, alloc, clock, listener, door, told.transpose()?)
 }
 
 /// Warns where fewer descriptors are allowed than so many workers may need (docs/OPERATING.md).
@@ -202,18 +182,15 @@ fn listen<M: Host + Net>(
     log: &StartLog<M>,
     address: &str,
 ) -> Result<net::TcpListener, Fault> {
-    listen_at(rt, address).map_err(|error| log.failed(address, error))
-}
-
-fn listen_at<R: Net>(rt: &R, address: &str) -> io::Result<net::TcpListener> {
+    let failed = |error| log.failed(address, error);
     let mut refused = io::Error::from(ErrorKind::AddrNotAvailable);
-    for number in address.to_socket_addrs(rt)? {
+    for number in address.to_socket_addrs(rt).map_err(failed)? {
         match net::TcpListener::bind(rt, number) {
             Ok(listener) => return Ok(listener),
             Err(error) => refused = error,
         }
     }
-    Err(refused)
+    Err(failed(refused))
 }
 
 /// The door at the address for operators.
@@ -238,17 +215,19 @@ fn open_door<M: Host + Net>(
 /// Serves so many streams by a loop for each of these plans, and ends all threads that it started.
 fn serve_with<M: NetHost>(
     common: Common<M>,
-    dealer: Dealer<M>,
+    mut dealer: Dealer<M>,
     plans: Vec<Plans>,
     most: u64,
-    writer: LogWriter,
+    mut writer: LogWriter,
 ) -> Result<(), Fault> {
-    let has_log = common.lines.is_some();
-    let mut dealer = dealer;
-    let mut writer = writer;
-    let loopings = loopings(&common, plans, &mut dealer.sides, &mut writer)?;
     let rt = common.rt;
     let alloc = common.alloc;
+    let has_log = common.lines.is_some();
+    let loopings = loopings(&common, plans)?;
+    for looping in &loopings {
+        dealer.sides.push(Arc::try_clone(&looping.side)?)?;
+        writer.add(&looping.side)?;
+    }
     // the log ends with the last loop
     drop(common);
     serve_by(rt, alloc, dealer, loopings, most, has_log.then_some(writer))
@@ -258,12 +237,11 @@ fn serve_with<M: NetHost>(
 fn serve_by<M: NetHost>(
     rt: M,
     alloc: Global,
-    dealer: Dealer<M>,
+    mut dealer: Dealer<M>,
     loopings: Vec<Looping<M>>,
     most: u64,
     writer: Option<LogWriter>,
 ) -> Result<(), Fault> {
-    let mut dealer = dealer;
     let mut crew = Crew {
         loops: Vec::new(alloc),
         written: None,
@@ -284,18 +262,12 @@ fn serve_by<M: NetHost>(
     }
 }
 
-/// A loop for each of these plans. What each shares with other threads is added to these sides, and told the writer.
-fn loopings<M: NetHost>(
-    common: &Common<M>,
-    plans: Vec<Plans>,
-    sides: &mut Vec<Arc<LoopSide>>,
-    writer: &mut LogWriter,
-) -> Result<Vec<Looping<M>>, Fault> {
+/// A loop for each of these plans.
+fn loopings<M: NetHost>(common: &Common<M>, plans: Vec<Plans>) -> Result<Vec<Looping<M>>, Fault> {
     let mut loopings = Vec::new(common.alloc);
     for (worker, plans) in (0..u32::MAX).zip(plans) {
-        loopings.push(Looping::new(common, worker, plans, sides)?)?;
+        loopings.push(Looping::new(common, worker, plans)?)?;
     }
-    writer.tell_of(sides)?;
     Ok(loopings)
 }
 
@@ -319,26 +291,15 @@ impl Crew {
         writer: Option<LogWriter>,
     ) -> Result<(), AllocError> {
         if let Some(writer) = writer {
-            self.start_writer(rt, alloc, writer)?;
+            let (done, written) = unbounded(alloc)?;
+            drop(thread::spawn(&rt, move || writer.run(&rt, done))?);
+            self.written = Some(written);
         }
         self.loops.reserve(loopings.len())?;
         for looping in loopings {
             let thread = thread::spawn(&rt, move || looping.run())?;
             self.loops.push(thread)?;
         }
-        Ok(())
-    }
-
-    /// Starts the thread that writes the log.
-    fn start_writer<M: NetHost>(
-        &mut self,
-        rt: M,
-        alloc: Global,
-        writer: LogWriter,
-    ) -> Result<(), AllocError> {
-        let (done, written) = unbounded(alloc)?;
-        drop(thread::spawn(&rt, move || writer.run(&rt, done))?);
-        self.written = Some(written);
         Ok(())
     }
 

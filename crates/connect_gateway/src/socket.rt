@@ -1,3 +1,4 @@
+use libc::EMFILE;
 use mio::net::TcpStream;
 use std::alloc::AllocError;
 use std::io::{self, ErrorKind, Read, Write};
@@ -7,9 +8,7 @@ use std::sync::Arc;
 use std::sync::atomic::{AtomicBool, AtomicU64, Ordering};
 use wires::Stream;
 
-/// The system's number for a program that has no descriptor left, and for a system that has none.
-const EMFILE: i32 = 24;
-
+/// The number of the error where the system has no descriptor left; `EMFILE` is that where the program has none.
 const ENFILE: i32 = 23;
 
 /// A request of so many bytes fits a packet.
@@ -38,7 +37,7 @@ impl Socket {
     pub(crate) fn to_backend<R: Net>(rt: &R, address: SocketAddr, length: usize) -> Socket {
         Socket {
             seat: None,
-            stream: connect(rt, address, length).map_err(kind_of),
+            stream: connect(rt, address, length).map_err(|error| kind_of(&error)),
         }
     }
 
@@ -63,7 +62,7 @@ fn connect<R: Net>(rt: &R, address: SocketAddr, length: usize) -> io::Result<Tcp
 }
 
 /// The kind of a failed connection. `QuotaExceeded` where the program or the system has no descriptor left.
-fn kind_of(error: io::Error) -> ErrorKind {
+fn kind_of(error: &io::Error) -> ErrorKind {
     match error.raw_os_error() {
         Some(EMFILE | ENFILE) => ErrorKind::QuotaExceeded,
         _ => error.kind(),

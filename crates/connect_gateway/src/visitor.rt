@@ -16,6 +16,7 @@ const MOST_READS: u32 = 64;
 const MOST_WRITES: u32 = 1_024;
 
 /// Who came to the address for operators: asks once, and is answered once.
+#[derive(Drop)]
 pub(crate) struct Visitor {
     stream: TcpStream,
     reader: Reader,
@@ -27,21 +28,6 @@ pub(crate) struct Visitor {
     pub(crate) until: u64,
 }
 
-// by hand, so that a drop is one call, where a derived one is written out at each return
-impl Drop for Visitor {
-    fn drop(self) {
-        let Visitor {
-            stream: _,
-            reader: _,
-            outbox: _,
-            has_asked: _,
-            has_ended: _,
-            is_shut: _,
-            until: _,
-        } = self;
-    }
-}
-
 // Clauses see nothing of it, which keeps proofs small.
 impl Model for Visitor {
     ghost Value = { ⊤ };
@@ -50,7 +36,7 @@ impl Model for Visitor {
 }
 
 /// What looking at a visitor came to.
-#[derive(Clone, Copy, PartialEq, Eq)]
+#[derive(Clone, Copy, PartialEq, Eq, Debug)]
 pub(crate) enum Seen {
     /// It may stay.
     Stays,

@@ -1,5 +1,5 @@
 -- What an object tells of its calls, and what reading a stream into an inlet makes of both.
-use Rattle.std.specs.Prelude.{◌≡◌, ◌≢◌, ℕ, ◌+◌, ◌<◌, ◌≤◌, All, List, [], ◌++◌, ◌∷◌, length, map, flat_map, Option, None, Some, ⊤}
+use Rattle.std.specs.Prelude.{◌≡◌, ◌≢◌, ℕ, ◌+◌, ◌<◌, ◌≤◌, All, List, [], ◌++◌, length, map, flat_map, Option, None, Some, ⊤}
 use Rattle.std.specs.Io.KnownBytes.{Consumes}
 use Rattle.connections.specs.declared.pumping.Fed.{Fed}
 use Rattle.connections.specs.declared.pumping.Fed.TheVariants.{Go, Stop, Full}

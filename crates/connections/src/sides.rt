@@ -64,8 +64,7 @@ pub fn read_side<S: Read, H: ReplyHook + Drop, L: Ledger, J: Ledger, K: Ledger>(
         bytes,
     };
     let fed = pump(rt, reader, &mut inlet);
-    let LockInlet { bytes, .. } = inlet;
-    (bytes, fed)
+    (inlet.bytes, fed)
 }
 
 /// The replies of a connection under the lock: each call is one hold. Taking one is no event, closing is.
@@ -108,8 +107,7 @@ pub fn write_side<R: Wait, W: Write, H: ReplyHook + Drop, L: Ledger, J: Ledger, 
     ensures own { map (λ r. r.id) result.items ≡ calls_of conn 0 (length result.items) }
     ensures written { WritesOut (W.contents writer.old) (W.contents writer.new) result.items }
 {
-    let mut replies = LockReplies { shared, conn };
-    write_replies(rt, alloc, writer, conn, &mut replies)
+    write_replies(rt, alloc, writer, conn, &mut LockReplies { shared, conn })
 }
 
 /// The time outside, as it is handed to the gateway.
@@ -130,14 +128,13 @@ pub fn clock_side<H: ReplyHook + Drop, L: Ledger, J: Ledger, K: Ledger>(
 ) {
     for _ in rt.forever() {
         let moment = clock.now(rt);
-        {
-            let mut state = shared.state.lock(rt);
-            if state.shut {
-                return;
-            }
-            state.book.moment(moment);
-            shared.wake();
+        let mut state = shared.state.lock(rt);
+        if state.shut {
+            return;
         }
+        state.book.moment(moment);
+        shared.wake();
+        drop(state);
         clock.pause(rt);
     }
     unreachable!()

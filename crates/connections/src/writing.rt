@@ -1,8 +1,7 @@
-ghost use Rattle.std.specs.Prelude.{◌≡◌, ◌+◌, ◌≤◌, [], ◌∷◌, ◌++◌, length, take, List, map, false, true, Option, None, MatchOption};
+ghost use Rattle.std.specs.Prelude.{◌≡◌, ◌≤◌, [], ◌∷◌, ℕ, length, take, List, map, Option, None};
 ghost use Rattle.std.specs.Io.KnownBytes.{Appends};
-ghost use Rattle.gateway_theory.specs.Replies.{ReplyValue};
 ghost use Rattle.connections.specs.Pumps.{Tells};
-ghost use Rattle.connections.specs.Writes.{End, Writes, WritesToItsEnd, goes_on, calls_of, told_by};
+ghost use Rattle.connections.specs.Writes.{End, NotYet, Writes, WritesToItsEnd, goes_on, calls_of, told_by};
 ghost use Rattle.connections.specs.declared.writing.Handed.{Handed};
 
 use gateway_core::{CallId, ConnId, Reply};
@@ -48,63 +47,41 @@ pub fn write_replies<R: Wait, W: Write, Q: ReplyQueue>(
         (Q.told queue.old) (Q.told queue.new) result.items }
 {
     let mut written = Vec::new(alloc);
-    write_all(rt, writer, conn, queue, &mut written);
-    queue.close(rt);
-    written
-}
-
-/// Writes what the queue gives until it can't go on, and keeps what was written, the last perhaps in part.
-fn write_all<R: Wait, W: Write, Q: ReplyQueue>(
-    rt: &R,
-    writer: &mut W,
-    conn: ConnId,
-    queue: &mut Q,
-    written: &mut Vec<Reply>,
-)
-    ensures { (end : End) × (more : List ReplyValue) × (goes_on end ≡ false)
-        × (written.new.items ≡ written.old.items ++ more)
-        × Writes conn 0 (W.contents writer.old) (W.contents writer.new)
-        (Q.told queue.old) (Q.told queue.new) more end [] }
-{
-    let mut request = 0;
     for _ in rt.forever() {
-        let Some(next) = write_next(rt, writer, conn, request, queue, written) else {
-            return;
-        };
-        request = next;
+        if !write_next(rt, writer, conn, queue, &mut written) {
+            queue.close(rt);
+            return written;
+        }
     }
     unreachable!()
 }
 
-/// Takes the reply to this request and writes it. Answers the next request; None where that was the last reply.
+/// Writes the reply to the next request, where the queue gives that, and keeps it beside those before it. Answers
+/// whether it was written whole.
 fn write_next<R: Wait, W: Write, Q: ReplyQueue>(
     rt: &R,
     writer: &mut W,
     conn: ConnId,
-    request: u64,
     queue: &mut Q,
     written: &mut Vec<Reply>,
-) -> Option<u64>
-    ensures { (end : End) × (more : List ReplyValue)
-        × MatchOption result (goes_on end ≡ false) (λ next. (goes_on end ≡ true) × (next ≡ request + length more))
-        × (written.new.items ≡ written.old.items ++ more)
-        × Writes conn request (W.contents writer.old) (W.contents writer.new)
-        (Q.told queue.old) (Q.told queue.new) more end [] }
+) -> bool
+    // whatever was written and told before
+    ensures { (old : Option (List ℕ)) (told : Option (List Handed))
+        → Writes conn 0 old (W.contents writer.old) told (Q.told queue.old) written.old.items NotYet []
+        → (end : End) × (goes_on end ≡ result)
+        × Writes conn 0 old (W.contents writer.new) told (Q.told queue.new) written.new.items end [] }
 {
     let Some(reply) = queue.next(rt) else {
-        return None;
+        return false;
     };
+    let request = written.len() as u64;
     if reply.id() != (CallId { conn, request }) || written.reserve(1).is_err() {
-        return None;
+        return false;
     }
-    // no connection has so many requests
-    let Some(next) = request.checked_add(1) else {
-        return None;
-    };
     let length = reply.bytes().len();
     let sent = send(reply.bytes(), writer);
     written.push_reserved(reply);
-    if sent == length { Some(next) } else { None }
+    sent == length
 }
 
 /// Writes the bytes, and answers how many were written: all, or those before the first write that failed or took none.

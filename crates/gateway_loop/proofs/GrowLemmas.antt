@@ -1,5 +1,5 @@
 -- What only grows.
-use Rattle.gateway_loop.proofs.Words.{◌≡◌, ℕ, List, [], ◌∷◌, ◌++◌, map, Option, None, Some, refl, sym, ap, ◌∙◌, subst, append_assoc, append-nil, inl, inr, ⊎_elim, Bool, true, false, cond, arith, length, ◌+◌, count_by, option_map_or, Contains, cases_eq, Contains-append_left, Contains-push, map-append, sum_by-cons, entries_from, Outcome, HandedJob, JobValue, IsPrefixOf, ClientValue, client_value, LoopValue, at, Continues, Grows, Onward, lingering, prefix-refl, prefix-trans}
+use Rattle.gateway_loop.proofs.Words.{◌≡◌, ℕ, List, [], ◌∷◌, ◌++◌, map, Option, None, Some, refl, sym, ap, ◌∙◌, subst, append_assoc, append-nil, inl, inr, ⊎_elim, Bool, false, arith, ◌+◌, count_by, option_map_or, Contains, cases_eq, Contains-append_left, Contains-push, map-append, sum_by-cons, entries_from, Outcome, HandedJob, JobValue, IsPrefixOf, ClientValue, client_value, LoopValue, at, Continues, Grows, Onward, lingering, prefix-refl, prefix-trans}
 use Rattle.std.proofs.lemmas.Bool.Decides.{nat_tests}
 use Rattle.gateway_loop.proofs.Places.{Put}
 
@@ -159,28 +159,8 @@ ticks_by was now m is = (m, [], is)
 
 -- ---- how many are there
 
-pub nothing_more : (n : ℕ) → 0 + n ≡ n
-nothing_more n = omega arith
-
 pub count_entries : {A : Type 0} (p : A → Bool) (key : ℕ) (slots : List (Option A))
     → count_by (λ (e : ℕ × A). p e.1) (entries_from key slots) ≡ count_by (λ (o : Option A). option_map_or p o false) slots
 count_entries p key [] = refl
 count_entries p key (None ∷ rest) = cc (count_entries p (key + 1) rest)
 count_entries p key (Some x ∷ rest) = search (arith, nat_tests, count_entries p (key + 1) rest, sum_by-cons)
-
-abbrev pub count_of : {A : Type 0} → (A → Bool) → List (ℕ × A) → ℕ
-count_of p entries = count_by (λ e. p e.1) entries
-
--- of the entries that are left one more was counted, or passed over
-pub counted : {A : Type 0} (p : A → Bool) (old rest : List (ℕ × A)) (e : ℕ × A) (n total : ℕ) → old ≡ e ∷ rest → p e.1 ≡ true
-    → n + count_of p old ≡ total → (n + 1) + count_of p rest ≡ total
-counted p old rest e n total steps on is =
-    let one : count_of p old ≡ 1 + count_of p rest = ap (λ l. count_of p l) steps ∙ sum_by-cons (λ d. cond (p d.1) 1 0) e rest ∙ ap (λ b. cond b 1 0 + count_of p rest) on in
-    omega (arith, is, one)
-
-pub passed_over : {A : Type 0} (p : A → Bool) (old rest : List (ℕ × A)) (e : ℕ × A) (n total : ℕ) → old ≡ e ∷ rest → p e.1 ≡ false
-    → n + count_of p old ≡ total → n + count_of p rest ≡ total
-passed_over p old rest e n total steps off is = cc
-
-pub one_less : {A : Type 0} (old rest : List A) (e : A) → old ≡ e ∷ rest → length old ≡ 1 + length rest
-one_less old rest e steps = ap (λ l. length l) steps ∙ omega arith

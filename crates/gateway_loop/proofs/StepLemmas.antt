@@ -8,8 +8,6 @@ use Rattle.gateway_model.specs.Run.{bytes_of}
 use Rattle.gateway_theory.specs.Replies.{ReplyValue}
 use Rattle.gateway_theory.specs.Served.{with_reply}
 use Rattle.gateway_theory.specs.lemmas.OneEvent.{kept_open, now_hung, shut_open}
-use Rattle.wires.specs.Wires.{Gives}
-use Rattle.wires.specs.declared.got.Got.{Got}
 use Rattle.gateway_loop.proofs.LeadLemmas.{Elsewhere, born_is_open, born_known, born_on, born_queue, born_text, closing_elsewhere, follows_event, leads_event, leads_reply, leads_then}
 use Rattle.gateway_theory.specs.lemmas.ServedLemmas.{hung_still as kept_hung, text_still as kept_stream}
 
@@ -193,10 +191,6 @@ fits_no_reply conn x plans h f = record {
         closed = s.closed;
       };
 }
-
--- whatever a read came to, more was read, or nothing
-pub gives_more : (old new piece : List ℕ) (got : Got) → Gives old new piece got → (more : List ℕ) × (new ≡ old ++ more)
-gives_more old new piece got h4 = grind (arith, nat_tests, append-nil)
 
 -- ---- closing
 

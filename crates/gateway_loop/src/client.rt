@@ -21,15 +21,8 @@ pub(crate) struct Client<W: Wire> {
     conn: ConnId,
     phase: Phase,
     outbox: Outbox,
-    // the reply that waits in the outbox
-    writing: Option<Writing>,
-}
-
-/// The request whose reply is written, and what answers it.
-#[derive(Drop)]
-struct Writing {
-    id: CallId,
-    entry: ReplyEntry,
+    // the request whose reply waits in the outbox, and what answers it
+    writing: Option<(CallId, ReplyEntry)>,
 }
 
 impl<W: Wire> Model for Client<W> {
@@ -118,10 +111,7 @@ impl<W: Wire> Client<W> {
     pub(crate) fn lingers(&self) -> bool
         ensures { result ≡ self.now.lingers }
     {
-        match self.phase {
-            Phase::Reads | Phase::Deaf => false,
-            Phase::Lingers => true,
-        }
+        self.phase == Phase::Lingers
     }
 
     /// Whether it is to be read, where its stream may have bytes: nothing waits to be written to it.
@@ -143,12 +133,12 @@ impl<W: Wire> Client<W> {
         core.is_idle(self.conn) && core.untaken(self.conn) == 0
     }
 
-    /// Whether nothing waits to be written.
-    pub(crate) fn has_written_all(&self) -> bool {
-        self.outbox.is_empty()
+    /// Whether each of its requests has its reply, and that was written.
+    pub(crate) fn is_idle<H: ReplyHook + Drop>(&self, core: &Core<H>) -> bool {
+        self.is_owed_nothing(core) && self.outbox.is_empty()
     }
 
-    /// Reads once, and hands on what came; if its connection was closed, it is dropped.
+    /// Reads once, unless it brings nothing more, and hands on what came; if its connection was closed, it is dropped.
     pub(crate) fn read<H: ReplyHook + Drop>(
         &mut self,
         core: &mut Core<H>,
@@ -157,25 +147,16 @@ impl<W: Wire> Client<W> {
         ensures steps { MakesSteps core.old core.new self.old self.new }
         ensures grows { Grows self.old self.new }
     {
-        if self.lingers() {
-            self.drop_input(edges)
-        } else {
-            self.hear(core, edges)
-        }
-    }
-
-    /// Reads once, if it is read, and hands on what came.
-    fn hear<H: ReplyHook + Drop>(&mut self, core: &mut Core<H>, edges: &mut Edges) -> Heard
-        ensures steps { MakesSteps core.old core.new self.old self.new }
-        ensures grows { Grows self.old self.new }
-    {
-        let Phase::Reads = self.phase else {
+        if self.phase == Phase::Deaf {
             return Heard::Nothing;
-        };
+        }
         let mut piece = [0u8; PIECE];
         match self.wire.read(&mut piece) {
             Got::Bytes(count) => {
                 edges.has_read(count);
+                if self.phase == Phase::Lingers {
+                    return Heard::Nothing;
+                }
                 take_in(core, self.conn, &piece[..count])
             }
             Got::Nothing => {
@@ -185,34 +166,10 @@ impl<W: Wire> Client<W> {
             Got::Interrupted => Heard::Nothing,
             Got::End(_) => {
                 edges.may_read = false;
-                hang_up(core, self.conn);
-                self.phase = Phase::Deaf;
-                Heard::End
-            }
-        }
-    }
-
-    /// Reads once, if its connection was closed, and drops what came.
-    fn drop_input(&mut self, edges: &mut Edges) -> Heard
-        ensures fits { FitsOn self.old self.new }
-        ensures grows { Grows self.old self.new }
-    {
-        let Phase::Lingers = self.phase else {
-            return Heard::Nothing;
-        };
-        let mut piece = [0u8; PIECE];
-        match self.wire.read(&mut piece) {
-            Got::Bytes(count) => {
-                edges.has_read(count);
-                Heard::Nothing
-            }
-            Got::Nothing => {
-                edges.may_read = false;
-                Heard::Nothing
-            }
-            Got::Interrupted => Heard::Nothing,
-            Got::End(_) => {
-                edges.may_read = false;
+                if self.phase == Phase::Reads {
+                    hang_up(core, self.conn);
+                    self.phase = Phase::Deaf;
+                }
                 Heard::End
             }
         }
@@ -231,9 +188,8 @@ impl<W: Wire> Client<W> {
     {
         for _write in 0..MOST_WRITES {
             self.fill(core);
-            match self.send(net, edges) {
-                Some(written) => return written,
-                None => {}
+            if let Some(written) = self.send(net, edges) {
+                return written;
             }
         }
         Written::More
@@ -244,10 +200,7 @@ impl<W: Wire> Client<W> {
         ensures steps { MakesSteps core.old core.new self.old self.new }
         ensures grows { Grows self.old self.new }
     {
-        if self.lingers() {
-            return;
-        }
-        if !self.outbox.is_empty() {
+        if self.lingers() || !self.outbox.is_empty() {
             return;
         }
         let Some(reply) = core.take_reply(self.conn) else {
@@ -255,7 +208,7 @@ impl<W: Wire> Client<W> {
         };
         let (id, entry, bytes) = reply.into_parts();
         self.outbox = Outbox::of(bytes);
-        begin(&mut self.writing, id, entry);
+        self.writing = Some((id, entry));
     }
 
     /// Writes once of what waits. Answers what writing came to, if it goes on no more.
@@ -299,16 +252,11 @@ impl<W: Wire> Client<W> {
     }
 }
 
-/// The reply to this request is being written.
-fn begin(writing: &mut Option<Writing>, id: CallId, entry: ReplyEntry) {
-    *writing = Some(Writing { id, entry });
-}
-
 /// Tells the reply that was being written.
-fn tell<W: Wire, N: Network<W>>(net: &mut N, writing: &mut Option<Writing>)
+fn tell<W: Wire, N: Network<W>>(net: &mut N, writing: &mut Option<(CallId, ReplyEntry)>)
     ensures { N.told net.new ≡ N.told net.old }
 {
-    if let Some(Writing { id, entry }) = writing.take() {
+    if let Some((id, entry)) = writing.take() {
         net.tell_reply(id, &entry);
     }
 }

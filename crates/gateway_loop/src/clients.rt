@@ -1,10 +1,9 @@
-ghost use Rattle.std.specs.Prelude.{◌≡◌, ◌++◌, ◌∷◌, [], ℕ, List, IfOk, option_map, option_to_list, count_by};
+ghost use Rattle.std.specs.Prelude.{◌≡◌, ◌++◌, ◌∷◌, [], ℕ, List, IfOk, option_map, option_to_list};
 ghost use Rattle.gateway_loop.specs.Clients.{HandsNothing, Onward, Starts, Tells};
 ghost use Rattle.gateway_model.specs.History.{no_history};
 ghost use Rattle.gateway_theory.specs.Served.{Served};
 ghost use Rattle.loop_model.specs.Explained.{IsExplained, draining};
 ghost use Rattle.loop_model.specs.Growing.{HasTicked};
-ghost use Rattle.slab.specs.Slab.{entries};
 ghost use Rattle.loop_model.specs.Standing.{count_clients, count_lingering};
 
 use crate::client::{Client, Heard, Phase, Written};
@@ -83,9 +82,7 @@ impl<H: ReplyHook + Drop, W: Wire + Drop> Clients<H, W> {
         ensures hands { HandsNothing self.old self.new }
     {
         loop_laws();
-        if self.clients.reserve(1).is_err() {
-            return None;
-        }
+        self.clients.reserve(1).ok()?;
         let (wire, stock) = dealt.into_parts();
         let Ok(conn) = self.core.open_conn(stock) else {
             return None;
@@ -200,13 +197,9 @@ impl<H: ReplyHook + Drop, W: Wire + Drop> Clients<H, W> {
         ensures results { self.new.results ≡ self.old.results }
     {
         loop_laws();
-        match self.core.take_job() {
-            Some(job) => {
-                self.handed = self.handed.and(&job, &true);
-                Some(job)
-            }
-            None => None,
-        }
+        let job = self.core.take_job()?;
+        self.handed = self.handed.and(&job, &true);
+        Some(job)
     }
 
     /// Records what came of the job; None for want of memory.
@@ -219,14 +212,10 @@ impl<H: ReplyHook + Drop, W: Wire + Drop> Clients<H, W> {
         loop_laws();
         self.results = self.results.and(job, &outcome);
         let call = job.call();
-        match outcome {
-            Some(outcome) => {
-                let _took = self.core.result(&call, job.branch(), outcome);
-            }
-            None => {
-                let _took = self.core.starved(&call, job.branch());
-            }
-        }
+        let _took = match outcome {
+            Some(outcome) => self.core.result(&call, job.branch(), outcome),
+            None => self.core.starved(&call, job.branch()),
+        };
     }
 }
 
@@ -250,7 +239,10 @@ impl<H: ReplyHook + Drop, W: Wire + Drop> Clients<H, W> {
     pub(crate) fn lingering(&self) -> usize
         ensures { result ≡ count_lingering self.now.clients }
     {
-        lingering_among(&self.clients)
+        self.clients
+            .iter()
+            .filter(|client| client.1.lingers())
+            .count()
     }
 
     /// The last moment that was handed in.
@@ -275,34 +267,22 @@ impl<H: ReplyHook + Drop, W: Wire + Drop> Clients<H, W> {
 
     /// Whether the client in that place is to be read, where its stream may have bytes.
     pub(crate) fn is_to_be_read(&self, place: usize) -> bool {
-        match self.clients.get(place) {
-            Some(client) => client.is_to_be_read(&self.core),
-            None => false,
-        }
+        matches!(self.clients.get(place), Some(client) if client.is_to_be_read(&self.core))
     }
 
     /// Whether the client in that place is owed nothing, and brings nothing more.
     pub(crate) fn is_to_leave(&self, place: usize) -> bool {
-        match self.clients.get(place) {
-            Some(client) => client.is_to_leave(&self.core),
-            None => false,
-        }
+        matches!(self.clients.get(place), Some(client) if client.is_to_leave(&self.core))
     }
 
     /// Whether each request of the client in that place has its reply, and that was taken.
     pub(crate) fn is_owed_nothing(&self, place: usize) -> bool {
-        match self.clients.get(place) {
-            Some(client) => client.is_owed_nothing(&self.core),
-            None => false,
-        }
+        matches!(self.clients.get(place), Some(client) if client.is_owed_nothing(&self.core))
     }
 
     /// Whether nothing is owed to the client in that place: each of its requests has its reply, and that was written.
     pub(crate) fn is_idle(&self, place: usize) -> bool {
-        match self.clients.get(place) {
-            Some(client) => client.is_owed_nothing(&self.core) && client.has_written_all(),
-            None => false,
-        }
+        matches!(self.clients.get(place), Some(client) if client.is_idle(&self.core))
     }
 
     /// Whether a reply is there for the connection, or it no longer brings requests or replies.
@@ -316,17 +296,4 @@ impl<H: ReplyHook + Drop, W: Wire + Drop> Clients<H, W> {
     {
         &self.core
     }
-}
-
-/// How many of the clients linger.
-fn lingering_among<W: Wire>(clients: &Slab<Client<W>>) -> usize
-    ensures { result ≡ count_by (λ entry. entry.1.lingers) (entries clients.now) }
-{
-    let mut count = 0usize;
-    for client in clients.iter() {
-        if client.1.lingers() {
-            count += 1;
-        }
-    }
-    count
 }

@@ -45,10 +45,7 @@ impl Ends {
     pub(crate) fn tell<W: Wire, N: Network<W>>(&mut self, net: &mut N)
         ensures { N.told net.new ≡ N.told net.old }
     {
-        for _branch in 0..self.waiting.len() {
-            let Some(end) = self.waiting.pop_front() else {
-                return;
-            };
+        for end in self.waiting.drain(..) {
             net.tell_branch(&end);
         }
     }

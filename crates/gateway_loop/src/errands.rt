@@ -21,18 +21,13 @@ impl<H: ReplyHook + Drop, W: Wire + Drop> EventLoop<H, W> {
         ensures goes { Goes self.old self.new }
         ensures told { TellsLoop (N.told net.old) (N.told net.new) self.old self.new }
     {
-        let mut started = 0u32;
-        for _start in 0..most {
-            if self.exchanges.len() >= MOST_EXCHANGES {
-                return started;
-            }
+        for started in 0..most {
             let Some(place) = self.exchanges.begin() else {
                 return started;
             };
-            started = started.saturating_add(1);
             self.start(net, place);
         }
-        started
+        most
     }
 
     /// Begins the exchange in that place, which is new. One that nobody waits for, or for which there is no memory, is
@@ -64,8 +59,11 @@ impl<H: ReplyHook + Drop, W: Wire + Drop> EventLoop<H, W> {
 
     /// The place of the client for whose call the new exchange in that place is, if its answer is wanted.
     fn client_of_new(&self, place: usize) -> Option<usize> {
-        let conn = self.exchanges.wanted_conn(place)?;
-        self.roster.client_of(conn)
+        let job = self.exchanges.asking(place)?.job();
+        if !job.wanted() {
+            return None;
+        }
+        self.roster.client_of(job.call().conn)
     }
 
     /// The new exchange in that place is lost by this before anything else knows of it; None for want of memory.
@@ -98,10 +96,7 @@ impl<H: ReplyHook + Drop, W: Wire + Drop> EventLoop<H, W> {
         ensures goes { Goes self.old self.new }
         ensures told { TellsLoop (N.told net.old) (N.told net.new) self.old self.new }
     {
-        for _name in 0..found.len() {
-            let Some(looked_up) = found.pop_front() else {
-                return;
-            };
+        for looked_up in found.drain(..) {
             let Some(places) = self.roster.found(looked_up.name.as_str()) else {
                 continue;
             };
@@ -169,7 +164,7 @@ impl<H: ReplyHook + Drop, W: Wire + Drop> EventLoop<H, W> {
         }
         let until = self.exchanges.attempt_until(place);
         let deadline = self.exchanges.deadline_of(place);
-        if !self.roster.begin_attempt(place, until, deadline) {
+        if !self.roster.set_time(place, until, deadline) {
             return self.lose(net, place, None);
         }
         if more {
@@ -198,17 +193,9 @@ impl<H: ReplyHook + Drop, W: Wire + Drop> EventLoop<H, W> {
             return;
         };
         let progress = self.exchanges.step(place, &mut errand.edges);
-        self.take_step(net, place, progress);
-    }
-
-    /// The exchange in that place made this step.
-    fn take_step<N: Network<W>>(&mut self, net: &mut N, place: usize, progress: Progress)
-        ensures goes { Goes self.old self.new }
-        ensures told { TellsLoop (N.told net.old) (N.told net.new) self.old self.new }
-    {
         // once its stream took a byte, it has all the time that its job has
         let deadline = self.exchanges.deadline_of(place);
-        if self.exchanges.is_connected(place) && !self.roster.end_attempt(place, deadline) {
+        if self.exchanges.is_connected(place) && !self.roster.set_time(place, None, deadline) {
             return self.lose(net, place, None);
         }
         match progress {
@@ -250,9 +237,9 @@ impl<H: ReplyHook + Drop, W: Wire + Drop> EventLoop<H, W> {
         ensures goes { Goes self.old self.new }
         ensures told { self.new.side.told ≡ self.old.side.told }
     {
-        let errand = self.roster.forget_exchange(place)?;
+        let name = self.exchanges.asking(place)?.job().address();
+        let errand = self.roster.forget_exchange(place, name)?;
         let end = self.exchanges.finish(place)?;
-        self.roster.leave(end.job.address(), errand.waits);
         let took = self.clients().moment().saturating_sub(errand.began);
         let call = end.job.call();
         self.ends.keep(Some(end), took);

@@ -154,38 +154,20 @@ impl<H: ReplyHook + Drop, W: Wire + Drop> Exchanges<H, W> {
         self.asking.get(place)
     }
 
-    /// The connection of the call for which the exchange in that place is, if its answer is wanted.
-    pub(crate) fn wanted_conn(&self, place: usize) -> Option<ConnId> {
-        let job = self.asking.get(place)?.job();
-        if job.wanted() {
-            Some(job.call().conn)
-        } else {
-            None
-        }
-    }
-
     /// Whether somebody waits for the exchange in that place.
     pub(crate) fn is_wanted(&self, place: usize) -> bool {
-        match self.asking.get(place) {
-            Some(asking) => self.clients.core().is_wanted(&asking.job().call()),
-            None => false,
-        }
+        let core = self.clients.core();
+        matches!(self.asking.get(place), Some(asking) if core.is_wanted(&asking.job().call()))
     }
 
     /// Whether there is no exchange in that place any more, or it is over.
     pub(crate) fn is_over(&self, place: usize) -> bool {
-        match self.asking.get(place) {
-            Some(asking) => asking.is_over(),
-            None => true,
-        }
+        self.asking.get(place).is_none_or(Asking::is_over)
     }
 
     /// Whether the stream of the exchange in that place took a byte.
     pub(crate) fn is_connected(&self, place: usize) -> bool {
-        match self.asking.get(place) {
-            Some(asking) => asking.attempt().is_connected(),
-            None => false,
-        }
+        matches!(self.asking.get(place), Some(asking) if asking.attempt().is_connected())
     }
 
     /// The deadline of the job that is asked for in that place.
@@ -205,7 +187,12 @@ impl<H: ReplyHook + Drop, W: Wire + Drop> Exchanges<H, W> {
             return None;
         }
         let moment = self.clients.moment();
-        Some(moment.saturating_add(attempt_time(asking.job().deadline(), moment)))
+        // half of the time that is left, and at least a millisecond
+        let time = match asking.job().deadline() {
+            Some(deadline) => (deadline.saturating_sub(moment) / 2).max(1),
+            None => ATTEMPT,
+        };
+        Some(moment.saturating_add(time))
     }
 
     /// Watches the stream of the exchange in that place. False where it can't be.
@@ -221,17 +208,15 @@ impl<H: ReplyHook + Drop, W: Wire + Drop> Exchanges<H, W> {
         }
     }
 
-    /// Takes the next job, which is asked for from now on: its place. None if none waits.
+    /// Takes the next job, which is asked for from now on: its place. None if none waits, or too many are asked for.
     pub(crate) fn begin(&mut self) -> Option<usize>
         ensures goes { Goes self.old self.new }
         ensures told { self.new.side.told ≡ self.old.side.told }
     {
-        if self.asking.reserve(1).is_err() {
+        if self.asking.len() >= MOST_EXCHANGES || self.asking.reserve(1).is_err() {
             return None;
         }
-        let Some(job) = self.clients.take_job() else {
-            return None;
-        };
+        let job = self.clients.take_job()?;
         let asking = Asking::new(self.alloc, job);
         asking.begun_law();
         Some(self.asking.insert_reserved(asking))
@@ -312,9 +297,7 @@ impl<H: ReplyHook + Drop, W: Wire + Drop> Exchanges<H, W> {
         ensures goes { Goes self.old self.new }
         ensures told { self.new.side.told ≡ self.old.side.told }
     {
-        let Some(mut asking) = self.asking.try_remove(place) else {
-            return None;
-        };
+        let mut asking = self.asking.try_remove(place)?;
         let cause = asking.cause();
         let status = asking.status();
         let outcome = asking.conclude(self.alloc);
@@ -328,14 +311,5 @@ impl<H: ReplyHook + Drop, W: Wire + Drop> Exchanges<H, W> {
             status,
             took: 0,
         })
-    }
-}
-
-/// How long an address has to accept that another follows, in milliseconds: half of the time that is left, or a second.
-fn attempt_time(deadline: Option<u64>, moment: u64) -> u64 {
-    match deadline {
-        // at least a millisecond
-        Some(deadline) => (deadline.saturating_sub(moment) / 2).max(1),
-        None => ATTEMPT,
     }
 }

@@ -33,12 +33,10 @@ impl<H: ReplyHook + Drop, W: Wire + Drop> EventLoop<H, W> {
     {
         self.admit_all(net, &mut comings.streams);
         self.take_found(net, &mut comings.found);
-        for ready in comings.ready.iter() {
-            if !self.roster.note_ready(*ready) {
-                self.starve(ready.token);
-            }
+        for ready in comings.ready.drain(..) {
+            self.roster.note_ready(ready);
+            self.line_up(ready.token);
         }
-        comings.ready.clear();
     }
 
     /// Begins to ask for the jobs that came, and writes the replies that are there, until neither brings anything more.
@@ -58,7 +56,7 @@ impl<H: ReplyHook + Drop, W: Wire + Drop> EventLoop<H, W> {
         }
         let has_jobs = self.clients().core().waiting_jobs() > 0
             && self.exchanges.len() < MOST_EXCHANGES;
-        self.again = has_jobs || self.roster.has_more();
+        self.again = has_jobs || self.roster.line_len() > 0 || self.roster.noted_len() > 0;
     }
 
     /// Hands in the present moment, unless that would change nothing: so calls that are due end before anything that
@@ -82,10 +80,9 @@ impl<H: ReplyHook + Drop, W: Wire + Drop> EventLoop<H, W> {
         self.ends.drain();
         self.look_at_all();
         for index in 0..self.roster.open().len() {
-            let Some(open) = self.roster.open().get(index) else {
+            let Some(&(_conn, place)) = self.roster.open().get(index) else {
                 break;
             };
-            let place = open.1;
             self.give_up_unwanted(place);
         }
         self.again = true;
@@ -100,10 +97,9 @@ impl<H: ReplyHook + Drop, W: Wire + Drop> EventLoop<H, W> {
         // place has none
         let has_waiting = self.clients().core().waiting_jobs() > 0;
         for index in 0..self.roster.open().len() {
-            let Some(open) = self.roster.open().get(index) else {
+            let Some(&(conn, place)) = self.roster.open().get(index) else {
                 return;
             };
-            let (conn, place) = *open;
             let has_news = self.clients().may_have_news(conn);
             if has_news {
                 self.note(place);
@@ -117,8 +113,5 @@ impl<H: ReplyHook + Drop, W: Wire + Drop> EventLoop<H, W> {
 
 /// Whether the deadline has come.
 pub(crate) fn is_due(deadline: Option<u64>, moment: u64) -> bool {
-    match deadline {
-        Some(deadline) => deadline <= moment,
-        None => false,
-    }
+    matches!(deadline, Some(deadline) if deadline <= moment)
 }

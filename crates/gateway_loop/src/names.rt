@@ -37,9 +37,7 @@ impl Names {
         ensures { N.told net.new ≡ N.told net.old }
     {
         if let Some(index) = self.index(name) {
-            if let Some(known) = self.names.get_mut(index) {
-                return Ok(Some(known.places.insert(place)?));
-            }
+            return Ok(Some(self.names[index].places.insert(place)?));
         }
         let (known, number) = Name::new(self.alloc, name, place)?;
         self.names.reserve(1)?;
@@ -53,9 +51,7 @@ impl Names {
     /// Who waits under this number waits no more.
     pub(crate) fn leave(&mut self, name: &str, number: usize) {
         if let Some(index) = self.index(name) {
-            if let Some(known) = self.names.get_mut(index) {
-                let _place = known.places.try_remove(number);
-            }
+            let _place = self.names[index].places.try_remove(number);
         }
     }
 

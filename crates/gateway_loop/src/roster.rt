@@ -47,14 +47,16 @@ impl Roster {
         })
     }
 
-    /// Whether someone is to be served, or something may be there for a client.
-    pub(crate) fn has_more(&self) -> bool {
-        !self.line.is_empty() || !self.noted.is_empty()
+    /// Whether whom the token names is in the line, if it names somebody.
+    fn in_line(&mut self, token: usize) -> Option<&mut bool> {
+        match owner_of(token) {
+            Owner::Client(place) => Some(&mut self.hints.get_mut(place)?.is_in_line),
+            Owner::Exchange(place) => Some(&mut self.errands.get_mut(place)?.is_in_line),
+        }
     }
 
-    /// Notes what became possible, and puts those whom it concerns into the line. A token that names nobody changes
-    /// nothing. False for want of memory.
-    pub(crate) fn note_ready(&mut self, ready: Ready) -> bool {
+    /// Notes what became possible. A token that names nobody changes nothing.
+    pub(crate) fn note_ready(&mut self, ready: Ready) {
         match owner_of(ready.token) {
             Owner::Client(place) => {
                 if let Some(hints) = self.hints.get_mut(place) {
@@ -67,22 +69,14 @@ impl Roster {
                 }
             }
         }
-        self.line_up(ready.token)
     }
 
-    /// Whom the token names is to be served. False for want of memory.
+    /// Whom the token names is to be served, if it names somebody. False for want of memory.
     pub(crate) fn line_up(&mut self, token: usize) -> bool {
-        let is_in_line = match owner_of(token) {
-            Owner::Client(place) => match self.hints.get_mut(place) {
-                Some(hints) => mem::replace(&mut hints.is_in_line, true),
-                None => true,
-            },
-            Owner::Exchange(place) => match self.errands.get_mut(place) {
-                Some(errand) => mem::replace(&mut errand.is_in_line, true),
-                None => true,
-            },
+        let Some(is_in_line) = self.in_line(token) else {
+            return true;
         };
-        is_in_line || self.line.push_back(token).is_ok()
+        mem::replace(is_in_line, true) || self.line.push_back(token).is_ok()
     }
 
     /// How many tokens stand in the line.
@@ -92,20 +86,11 @@ impl Roster {
 
     /// Takes the first out of the line.
     pub(crate) fn next_in_line(&mut self) -> Option<Owner> {
-        let owner = owner_of(self.line.pop_front()?);
-        match owner {
-            Owner::Client(place) => {
-                if let Some(hints) = self.hints.get_mut(place) {
-                    hints.is_in_line = false;
-                }
-            }
-            Owner::Exchange(place) => {
-                if let Some(errand) = self.errands.get_mut(place) {
-                    errand.is_in_line = false;
-                }
-            }
+        let token = self.line.pop_front()?;
+        if let Some(is_in_line) = self.in_line(token) {
+            *is_in_line = false;
         }
-        Some(owner)
+        Some(owner_of(token))
     }
 
     /// Something may be there for the client in that place. False for want of memory.
@@ -167,18 +152,12 @@ impl Roster {
 
     /// Whether the stream of the client in that place may have bytes.
     pub(crate) fn may_read(&self, place: usize) -> bool {
-        match self.hints.get(place) {
-            Some(hints) => hints.edges.may_read,
-            None => false,
-        }
+        matches!(self.hints.get(place), Some(hints) if hints.edges.may_read)
     }
 
     /// Whether the last piece that the client in that place brought made no request.
     pub(crate) fn is_half_read(&self, place: usize) -> bool {
-        match self.hints.get(place) {
-            Some(hints) => hints.is_half_read,
-            None => false,
-        }
+        matches!(self.hints.get(place), Some(hints) if hints.is_half_read)
     }
 
     /// The connection of the client in that place was closed. The places of its exchanges, which it has no longer.
@@ -256,29 +235,22 @@ impl Roster {
         Some(places)
     }
 
-    /// The exchange in that place has a new stream: its address has until then, where another follows, and else it has
-    /// until the deadline. False for want of memory.
-    pub(crate) fn begin_attempt(
+    /// The address of the exchange in that place has until then, where it has a time limit of its own; else the
+    /// exchange has until the deadline of its job. False for want of memory.
+    pub(crate) fn set_time(
         &mut self,
         place: usize,
-        until: Option<u64>,
+        address: Option<u64>,
         deadline: Option<u64>,
     ) -> bool {
-        if until.is_none() {
-            return self.end_attempt(place, deadline);
-        }
-        if let Some(errand) = self.errands.get_mut(place) {
-            errand.is_timed = true;
-        }
-        self.set_until(place, until)
-    }
-
-    /// The exchange in that place has until the deadline of its job. False for want of memory.
-    pub(crate) fn end_attempt(&mut self, place: usize, deadline: Option<u64>) -> bool {
         let Some(errand) = self.errands.get_mut(place) else {
             return true;
         };
-        !mem::replace(&mut errand.is_timed, false) || self.set_until(place, deadline)
+        let was_timed = mem::replace(&mut errand.is_timed, address.is_some());
+        if !was_timed && address.is_none() {
+            return true;
+        }
+        self.set_until(place, address.or(deadline))
     }
 
     /// Until when the exchange in that place goes on; None: as long as its backend lets it. False for want of memory.
@@ -291,20 +263,16 @@ impl Roster {
         }
     }
 
-    /// The exchange in that place is over: what was known of it.
-    pub(crate) fn forget_exchange(&mut self, place: usize) -> Option<Errand> {
+    /// The exchange in that place, whose address is that name, is over: what was known of it.
+    pub(crate) fn forget_exchange(&mut self, place: usize, name: &str) -> Option<Errand> {
         let errand = self.errands.try_remove(place)?;
         if let Some(hints) = self.hints.get_mut(errand.client) {
             hints.forget_exchange(place);
         }
-        let _stopped = self.untils.stop(timer_id(exchange_token(place)));
-        Some(errand)
-    }
-
-    /// Who waits for the name under this number waits no more.
-    pub(crate) fn leave(&mut self, name: &str, number: Option<usize>) {
-        if let Some(number) = number {
+        if let Some(number) = errand.waits {
             self.names.leave(name, number);
         }
+        let _stopped = self.untils.stop(timer_id(exchange_token(place)));
+        Some(errand)
     }
 }

@@ -23,10 +23,8 @@ impl<H: ReplyHook + Drop, W: Wire + Drop> EventLoop<H, W> {
         ensures goes { Goes self.old self.new }
         ensures told { TellsLoop (N.told net.old) (N.told net.new) self.old self.new }
     {
-        for _stream in 0..streams.len() {
-            if let Some(dealt) = streams.pop_front() {
-                self.admit(net, dealt);
-            }
+        for dealt in streams.drain(..) {
+            self.admit(net, dealt);
         }
     }
 
@@ -45,13 +43,17 @@ impl<H: ReplyHook + Drop, W: Wire + Drop> EventLoop<H, W> {
         }
     }
 
-    /// Whom the token names is to be served.
+    /// Whom the token names is to be served. Where there is no memory for that it is let go, since it would hang.
     pub(crate) fn line_up(&mut self, token: usize)
         ensures goes { Goes self.old self.new }
         ensures told { self.new.side.told ≡ self.old.side.told }
     {
-        if !self.roster.line_up(token) {
-            self.starve(token);
+        if self.roster.line_up(token) {
+            return;
+        }
+        match owner_of(token) {
+            Owner::Client(place) => self.drop_client(place),
+            Owner::Exchange(place) => self.starve_exchange(place),
         }
     }
 
@@ -62,17 +64,6 @@ impl<H: ReplyHook + Drop, W: Wire + Drop> EventLoop<H, W> {
     {
         if !self.roster.note(place) {
             self.drop_client(place);
-        }
-    }
-
-    /// There is no memory to serve whom the token names: it would hang.
-    pub(crate) fn starve(&mut self, token: usize)
-        ensures goes { Goes self.old self.new }
-        ensures told { self.new.side.told ≡ self.old.side.told }
-    {
-        match owner_of(token) {
-            Owner::Client(place) => self.drop_client(place),
-            Owner::Exchange(place) => self.starve_exchange(place),
         }
     }
 
@@ -101,7 +92,7 @@ impl<H: ReplyHook + Drop, W: Wire + Drop> EventLoop<H, W> {
         self.tick(net);
         let heard = self.read_client(place);
         if heard == Heard::End && self.clients().phase(place) == Some(Phase::Lingers) {
-            return self.forget_client(place);
+            return self.drop_client(place);
         }
         if matches!(heard, Heard::Broke | Heard::End) {
             self.give_up_unwanted(place);
@@ -159,24 +150,16 @@ impl<H: ReplyHook + Drop, W: Wire + Drop> EventLoop<H, W> {
             }
             return;
         }
-        let written = self.write_replies(net, place);
+        let Some(hints) = self.roster.client(place) else {
+            return;
+        };
+        let written = self.exchanges.write(net, place, &mut hints.edges);
         if written == Written::Failed {
             self.drop_client(place);
         } else if self.clients().is_to_leave(place) {
             self.leave(place);
         } else if written == Written::More || self.is_to_be_read(place) {
             self.line_up(client_token(place));
-        }
-    }
-
-    /// Writes the replies that are there to the client in that place.
-    fn write_replies<N: Network<W>>(&mut self, net: &mut N, place: usize) -> Written
-        ensures goes { Goes self.old self.new }
-        ensures told { TellsLoop (N.told net.old) (N.told net.new) self.old self.new }
-    {
-        match self.roster.client(place) {
-            Some(hints) => self.exchanges.write(net, place, &mut hints.edges),
-            None => Written::All,
         }
     }
 
@@ -214,10 +197,8 @@ impl<H: ReplyHook + Drop, W: Wire + Drop> EventLoop<H, W> {
         self.close(place);
         let until = self.clients().moment().saturating_add(LINGER);
         if !lingers || !self.roster.linger(place, until) {
-            self.forget_client(place);
-            return;
-        }
-        if self.roster.may_read(place) {
+            self.drop_client(place);
+        } else if self.roster.may_read(place) {
             self.line_up(client_token(place));
         }
     }
@@ -242,15 +223,6 @@ impl<H: ReplyHook + Drop, W: Wire + Drop> EventLoop<H, W> {
         }
     }
 
-    /// The client in that place goes, and its stream is closed.
-    pub(crate) fn forget_client(&mut self, place: usize)
-        ensures goes { Goes self.old self.new }
-        ensures told { self.new.side.told ≡ self.old.side.told }
-    {
-        self.exchanges.let_go(place);
-        self.roster.forget_client(place);
-    }
-
     /// Ends the exchanges whose time is over, and lets go of those that lingered long enough.
     pub(crate) fn expire<N: Network<W>>(&mut self, net: &mut N)
         ensures goes { Goes self.old self.new }
@@ -262,7 +234,7 @@ impl<H: ReplyHook + Drop, W: Wire + Drop> EventLoop<H, W> {
                 return;
             };
             match owner {
-                Owner::Client(place) => self.forget_client(place),
+                Owner::Client(place) => self.drop_client(place),
                 Owner::Exchange(place) => self.time_out(net, place),
             }
         }

@@ -42,135 +42,118 @@ pub(crate) fn serve<M: Host + Net<Listener = TcpListener, Stream = TcpStream>>(
         jobs: Blank::new(u64::from(workers) + 1),
         results: Blank::new(u64::from(workers) + 1),
     };
-    serve_with::<M, Brand, Brand, Brand>(rt, alloc, plans, blanks, listener, workers)
+    Server::<M, Brand, Brand, Brand>::serve_with(rt, alloc, plans, blanks, listener, workers)
 }
 
-/// Serves one stream by threads: two for its sides, so many workers, and one for the clock. It ends once the stream
-/// has.
-pub(crate) fn serve_with<
+impl<
     M: Host + Net<Listener = TcpListener, Stream = TcpStream>,
     L: Ledger + Send + Sync + 'static,
     J: Ledger + Send + Sync + 'static,
     K: Ledger + Send + Sync + 'static,
->(
-    rt: M,
-    alloc: Global,
-    plans: Plans,
-    blanks: Blanks,
-    listener: TcpListener,
-    workers: u32,
-) -> Result<(), Fault>
-    requires names { (blanks.bytes.name ≡ L.name) × (blanks.jobs.name ≡ J.name) × (blanks.results.name ≡ K.name) }
-    requires parts { (blanks.bytes.parts ≡ L.parts) × (blanks.jobs.parts ≡ J.parts)
-        × (blanks.results.parts ≡ K.parts) }
-    requires enough { (blanks.bytes.parts ≡ 1) × (workers < blanks.jobs.parts) × (workers < blanks.results.parts) }
-{
-    let start = Instant::now(&rt)?;
-    let (book, shares) = Book::<PlainHook, L, J, K>::new(alloc, plans, blanks)?;
-    let Shares {
-        bytes,
-        jobs,
-        results,
-    } = shares;
-    let shared = Shared::new(book);
-    let server = Server {
-        rt,
-        alloc,
-        start,
-        shared,
-    };
-    let server = Arc::new(alloc, server)?;
-    let mut crew = Vec::new(alloc);
-    let served = match start_crew(&server, workers, WorkerShares { jobs, results }, &mut crew) {
-        Ok(()) => serve_next(&server, &listener, bytes),
-        Err(_) => Err(Fault::Memory),
-    };
-    server.shared.shut(&rt);
-    for thread in crew {
-        thread.join(&rt);
-    }
-    served
-}
-
-/// Starts so many workers, and the clock's thread. Those that started are in the crew, also where it fails.
-fn start_crew<
-    M: Host + Net<Listener = TcpListener, Stream = TcpStream>,
-    L: Ledger + Send + Sync + 'static,
-    J: Ledger + Send + Sync + 'static,
-    K: Ledger + Send + Sync + 'static,
->(
-    server: &Arc<Server<M, L, J, K>>,
-    workers: u32,
-    shares: WorkerShares<J, K>,
-    crew: &mut Vec<JoinHandle<()>>,
-) -> Result<(), AllocError>
-    requires { (workers < shares.jobs.parts) × (workers < shares.results.parts) }
-{
-    let WorkerShares {
-        mut jobs,
-        mut results,
-    } = shares;
-    for _worker in 0..workers {
-        let mine = WorkerShares {
-            jobs: jobs.split_off(1, 0),
-            results: results.split_off(1, 0),
+> Server<M, L, J, K> {
+    /// Serves one stream by threads: two for its sides, so many workers, and one for the clock. It ends once the stream
+    /// has.
+    pub(crate) fn serve_with(
+        rt: M,
+        alloc: Global,
+        plans: Plans,
+        blanks: Blanks,
+        listener: TcpListener,
+        workers: u32,
+    ) -> Result<(), Fault>
+        requires names { (blanks.bytes.name ≡ L.name) × (blanks.jobs.name ≡ J.name) × (blanks.results.name ≡ K.name) }
+        requires parts { (blanks.bytes.parts ≡ L.parts) × (blanks.jobs.parts ≡ J.parts)
+            × (blanks.results.parts ≡ K.parts) }
+        requires enough { (blanks.bytes.parts ≡ 1) × (workers < blanks.jobs.parts) × (workers < blanks.results.parts) }
+    {
+        let start = Instant::now(&rt)?;
+        let (book, mut shares) = Book::<PlainHook, L, J, K>::new(alloc, plans, blanks)?;
+        let shared = Shared::new(book);
+        let server = Server {
+            rt,
+            alloc,
+            start,
+            shared,
         };
-        crew.reserve(1)?;
-        crew.push_reserved(start_worker(server, mine)?);
+        let server = Arc::new(alloc, server)?;
+        let mut crew = Vec::new(alloc);
+        let served = match Server::start_crew(&server, workers, &mut shares, &mut crew) {
+            Ok(()) => server.serve_next(&listener, shares.bytes),
+            Err(_) => Err(Fault::Memory),
+        };
+        server.shared.shut(&rt);
+        for thread in crew {
+            thread.join(&rt);
+        }
+        served
     }
-    let of = Arc::try_clone(server)?;
-    let mut clock = SinceStart::new(server.start);
-    let job = move || clock_side(&of.rt, &mut clock, &of.shared);
-    crew.reserve(1)?;
-    crew.push_reserved(thread::spawn(&server.rt, job)?);
-    Ok(())
-}
 
-/// Starts a worker, which asks backends over TCP. Its shares are dropped as it ends: nobody asks for their sum.
-fn start_worker<
-    M: Host + Net<Listener = TcpListener, Stream = TcpStream>,
-    L: Ledger + Send + Sync + 'static,
-    J: Ledger + Send + Sync + 'static,
-    K: Ledger + Send + Sync + 'static,
->(server: &Arc<Server<M, L, J, K>>, mine: WorkerShares<J, K>) -> Result<JoinHandle<()>, AllocError>
-    requires { (mine.jobs.parts ≡ 1) × (mine.results.parts ≡ 1) }
-{
-    let of = Arc::try_clone(server)?;
-    let job = move ||
+    /// Starts so many workers, each with parts of the shares of its own, and the clock's thread. Those that started are
+    /// in the crew, also where it fails.
+    fn start_crew(
+        server: &Arc<Self>,
+        workers: u32,
+        shares: &mut Shares<L, J, K>,
+        crew: &mut Vec<JoinHandle<()>>,
+    ) -> Result<(), AllocError>
+        requires { (workers < shares.old.jobs.parts) × (workers < shares.old.results.parts) }
+        ensures { shares.new.bytes ≡ shares.old.bytes }
+    {
+        for _worker in 0..workers {
+            let mine = WorkerShares {
+                jobs: shares.jobs.split_off(1, 0),
+                results: shares.results.split_off(1, 0),
+            };
+            crew.reserve(1)?;
+            crew.push_reserved(Server::start_worker(server, mine)?);
+        }
+        let of = Arc::try_clone(server)?;
+        let mut clock = SinceStart::new(server.start);
+        let job = move || clock_side(&of.rt, &mut clock, &of.shared);
+        crew.reserve(1)?;
+        crew.push_reserved(thread::spawn(&server.rt, job)?);
+        Ok(())
+    }
+
+    /// Starts a worker, which asks backends over TCP. Its shares are dropped as it ends: nobody asks for their sum.
+    fn start_worker(
+        server: &Arc<Self>,
+        mine: WorkerShares<J, K>,
+    ) -> Result<JoinHandle<()>, AllocError>
         requires { (mine.jobs.parts ≡ 1) × (mine.results.parts ≡ 1) }
     {
-        let backend = RemoteBackend::new(of.alloc, of.start);
-        let _ = worker(&of.rt, of.alloc, &of.shared, &backend, &NoGate, mine);
-    };
-    Ok(thread::spawn(&server.rt, job)?)
-}
+        let of = Arc::try_clone(server)?;
+        let job = move ||
+            requires { (mine.jobs.parts ≡ 1) × (mine.results.parts ≡ 1) }
+        {
+            let backend = RemoteBackend::new(of.alloc, of.start);
+            let _ = worker(&of.rt, of.alloc, &of.shared, &backend, &NoGate, mine);
+        };
+        Ok(thread::spawn(&server.rt, job)?)
+    }
 
-/// Serves the next stream by its two sides, each in a thread of its own. Behind the last reply it is shut down both
-/// ways, which ends its read.
-fn serve_next<
-    M: Host + Net<Listener = TcpListener, Stream = TcpStream>,
-    L: Ledger + Send + Sync + 'static,
-    J: Ledger + Send + Sync + 'static,
-    K: Ledger + Send + Sync + 'static,
->(server: &Server<M, L, J, K>, listener: &TcpListener, bytes: Share<L>) -> Result<(), Fault>
-    requires { bytes.parts ≡ 1 }
-{
-    let (stream, _peer) = listener.accept()?;
-    let hooks = stock(server.alloc)?;
-    let opened = server.shared.state.lock(&server.rt).book.opening(hooks);
-    let Ok(conn) = opened else {
-        return Err(Fault::Memory);
-    };
-    let (mut reader, mut writer) = (&stream, &stream);
-    let (_share, _replies) = thread::join(
-        &server.rt,
-        || read_side(&server.rt, &mut reader, &server.shared, conn, bytes),
-        || {
-            let replies = write_side(&server.rt, server.alloc, &mut writer, &server.shared, conn);
-            // the client may have ended the stream before
-            let _ = stream.shutdown(Shutdown::Both);
-            replies
-        },
-    );
-    Ok(())
+    /// Serves the next stream by its two sides, each in a thread of its own. Behind the last reply it is shut down both
+    /// ways, which ends its read.
+    fn serve_next(&self, listener: &TcpListener, bytes: Share<L>) -> Result<(), Fault>
+        requires { bytes.parts ≡ 1 }
+    {
+        let (stream, _peer) = listener.accept()?;
+        let hooks = stock(self.alloc)?;
+        let opened = self.shared.state.lock(&self.rt).book.opening(hooks);
+        let Ok(conn) = opened else {
+            return Err(Fault::Memory);
+        };
+        let (mut reader, mut writer) = (&stream, &stream);
+        let (_share, _replies) = thread::join(
+            &self.rt,
+            || read_side(&self.rt, &mut reader, &self.shared, conn, bytes),
+            || {
+                let replies = write_side(&self.rt, self.alloc, &mut writer, &self.shared, conn);
+                // the client may have ended the stream before
+                let _ = stream.shutdown(Shutdown::Both);
+                replies
+            },
+        );
+        Ok(())
+    }
 }

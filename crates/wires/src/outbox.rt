@@ -1,4 +1,4 @@
-ghost use Rattle.std.specs.Prelude.{◌≡◌, ◌≤◌, [], length, drop, IsTrue, ◌↔◌};
+ghost use Rattle.std.specs.Prelude.{◌≡◌, ◌≤◌, ℕ, List, [], length, drop, IsTrue, ◌↔◌};
 
 use http_pieces::Bytes;
 use std::marker::Model;
@@ -11,8 +11,6 @@ pub struct Outbox {
 }
 
 impl Model for Outbox {
-    ghost use Rattle.std.specs.Prelude.{List, ℕ, drop, ◌≤◌, length};
-
     ghost Value = { List ℕ };
 
     ghost view = { λ o. drop o.at o.bytes.items };

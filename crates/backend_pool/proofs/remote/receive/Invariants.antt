@@ -1,6 +1,4 @@
-use Rattle.backend_pool.proofs.Lemmas.{ℕ, List, None}
-use Rattle.std.specs.Io.KnownBytes.{Consumes}
-use Rattle.http_pieces.specs.ReplyReader.{HasReadReply}
+use Rattle.backend_pool.proofs.Lemmas.{HasReadReply, Consumes, ℕ, List, None}
 use Rattle.backend_pool.proofs.remote.receive.Given as goal
 
 -- all bytes that were read were taken: they are no whole reply

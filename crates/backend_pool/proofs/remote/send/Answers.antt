@@ -1,8 +1,5 @@
-use Rattle.backend_pool.proofs.Lemmas.{refl, sends_more, sends_none}
+use Rattle.backend_pool.proofs.Lemmas.{sends_more}
 use Rattle.backend_pool.proofs.remote.send.Goals as goal
-
-pub loop-writer-init : goal.loop-writer-init
-loop-writer-init g c = (sends_none _ _, refl)
 
 pub loop-writer-preserved : goal.loop-writer-preserved
 loop-writer-preserved g c =

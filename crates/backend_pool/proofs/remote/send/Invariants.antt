@@ -1,5 +1,4 @@
-use Rattle.backend_pool.proofs.Lemmas.{◌≡◌, length}
-use Rattle.backend_pool.specs.Work.{SendsOn}
+use Rattle.backend_pool.proofs.Lemmas.{SendsOn, ◌≡◌, length}
 use Rattle.backend_pool.proofs.remote.send.Given as goal
 
 -- what was written and what is left is the request

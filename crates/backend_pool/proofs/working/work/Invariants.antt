@@ -1,5 +1,4 @@
-use Rattle.backend_pool.proofs.Lemmas.{◌≡◌, ◌+◌, ◌≤◌}
-use Rattle.backend_pool.specs.Work.{WorksAt}
+use Rattle.backend_pool.proofs.Lemmas.{WorksAt, ◌≡◌, ◌+◌, ◌≤◌}
 use Rattle.backend_pool.proofs.working.work.Given as goal
 
 -- each job taken was recorded

@@ -1,6 +1,4 @@
-use Rattle.connections.proofs.Lemmas.{[]}
-use Rattle.connections.specs.Pumps.{Pumps}
-use Rattle.connections.specs.declared.pumping.Fed.TheVariants.{Go}
+use Rattle.connections.proofs.Lemmas.{Go, Pumps, []}
 use Rattle.connections.proofs.pumping.give_pieces.Given as goal
 
 -- what was read so far was given, and answered by `Go`

@@ -1,8 +1,8 @@
-use Rattle.connections.proofs.Lemmas.{◌≡◌, ◌++◌, ap, ◌∙◌, Writes-then}
+use Rattle.connections.proofs.Lemmas.{arith, common_steps, ◌∙◌}
 use Rattle.connections.proofs.writing.write_replies.Goals as goal
 
-pub returns-clause-written : goal.returns-clause-written
-returns-clause-written g c =
-    let all = c.write_all.ensures in
-    let same : c.write_all.new.written.items ≡ all.1 = all.3 ∙ ap (λ zs. zs ++ all.1) c.new-written.ensures.items in
-    (all.0, all.2, rw same (Writes-then _ _ _ _ _ _ _ _ _ all.4 c.close.ensures))
+pub returns-then-not-write_next : goal.returns-then-not-write_next
+returns-then-not-write_next g c =
+    let w = c.write_next.ensures _ _ c.loop.invariant.2 in
+    let told = c.close.ensures in
+    record { own = w.2.own; written = (w.0, w.1 ∙ c.if-not-write_next.true, grind (arith, common_steps)) }

@@ -2,6 +2,3 @@ use Rattle.backend_pool.proofs.book.Book.bounds_law.Goals as goal
 
 pub returns-clause-records : goal.returns-clause-records
 returns-clause-records g c = λ id kept history occurred. c.calls_law.ensures.records id kept c.args.self.now.core history occurred
-
-pub returns-clause-limit : goal.returns-clause-limit
-returns-clause-limit g c = λ id a history occurred. c.calls_law.ensures.limit id a c.args.self.now.core history occurred

@@ -1,13 +1,7 @@
-use Rattle.backend_pool.proofs.Lemmas.{[], refl, arith, Closing, after_event, reached, takes_event}
+use Rattle.backend_pool.proofs.Lemmas.{[], refl, arith, Closing, takes_event}
 use Rattle.backend_pool.proofs.book.Book.closing.Goals as goal
 
-pub invariant_of-self : goal.invariant_of-self
-invariant_of-self g c =
-    reached _ _ (after_event (Closing c.args.conn)) c.self.invariant (takes_event _ _ (Closing c.args.conn) c.close.ensures.stands ([], refl, c.close.ensures.keeps.tally_is) (omega arith) (omega arith) (omega arith))
-
-pub returns-clause-stands : goal.returns-clause-stands
-returns-clause-stands g c =
-    rw (← c.self.view_is) (takes_event _ _ (Closing c.args.conn) c.close.ensures.stands ([], refl, c.close.ensures.keeps.tally_is) (omega arith) (omega arith) (omega arith))
-
-pub returns-clause-keeps : goal.returns-clause-keeps
-returns-clause-keeps g c = rw (← c.self.view_is) c.close.ensures.keeps
+pub returns : goal.returns
+returns g c =
+    let r = c.close.ensures in
+    rw (← c.self.view_is) record { stands = takes_event _ _ (Closing c.args.conn) r.stands ([], refl, r.keeps.tally_is) (omega arith) (omega arith) (omega arith); closed = r.closed; counts = refl; keeps = r.keeps }

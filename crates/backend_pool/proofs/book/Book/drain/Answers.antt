@@ -1,13 +1,6 @@
-use Rattle.backend_pool.proofs.Lemmas.{[], refl, arith, Drain, after_event, reached, takes_event}
+use Rattle.backend_pool.proofs.Lemmas.{[], refl, arith, Drain, takes_event}
 use Rattle.backend_pool.proofs.book.Book.drain.Goals as goal
-
-pub invariant_of-self : goal.invariant_of-self
-invariant_of-self g c =
-    reached _ _ (after_event Drain) c.self.invariant (takes_event _ _ Drain c.drain.ensures.stands ([], refl, c.drain.ensures.keeps.tally_is) (omega arith) (omega arith) (omega arith))
 
 pub returns-clause-stands : goal.returns-clause-stands
 returns-clause-stands g c =
     rw (← c.self.view_is) (takes_event _ _ Drain c.drain.ensures.stands ([], refl, c.drain.ensures.keeps.tally_is) (omega arith) (omega arith) (omega arith))
-
-pub returns-clause-keeps : goal.returns-clause-keeps
-returns-clause-keeps g c = rw (← c.self.view_is) c.drain.ensures.keeps

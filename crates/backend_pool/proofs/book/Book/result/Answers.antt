@@ -1,16 +1,13 @@
-use Rattle.backend_pool.proofs.Lemmas.{[], ◌∷◌, refl, arith, BranchResult, after_event, reached, takes_event}
+use Rattle.backend_pool.proofs.Lemmas.{[], ◌∷◌, refl, rules, arith, BranchResult, after_event, takes_event}
 use Rattle.backend_pool.proofs.book.Book.result.Goals as goal
 
 pub invariant_of-self : goal.invariant_of-self
 invariant_of-self g c =
-    reached _ _ (after_event (BranchResult c.args.call.now.conn c.args.call.now.request c.args.branch c.args.outcome)) c.self.invariant (takes_event _ _ (BranchResult c.args.call.now.conn c.args.call.now.request c.args.branch c.args.outcome) c.result.ensures.stands (c.result.result.seen ∷ [], refl, c.result.ensures.keeps.tally_is) (omega arith) (omega arith) (omega arith))
+    let e = BranchResult c.args.call.now.conn c.args.call.now.request c.args.branch c.args.outcome in
+    (after_event e c.self.invariant.0, takes_event _ _ e c.result.ensures.stands (c.result.result.seen ∷ [], refl, c.result.ensures.keeps.tally_is) (omega arith) (omega arith) (omega arith) _ c.self.invariant.1)
 
-pub returns-clause-stands : goal.returns-clause-stands
-returns-clause-stands g c =
-    rw (← c.self.view_is) (takes_event _ _ (BranchResult c.args.call.now.conn c.args.call.now.request c.args.branch c.args.outcome) c.result.ensures.stands (c.result.result.seen ∷ [], refl, c.result.ensures.keeps.tally_is) (omega arith) (omega arith) (omega arith))
-
-pub returns-clause-keeps : goal.returns-clause-keeps
-returns-clause-keeps g c = rw (← c.self.view_is) c.result.ensures.keeps
-
-pub returns-clause-tells : goal.returns-clause-tells
-returns-clause-tells g c = rw (← c.self.view_is) c.result.ensures.tells
+pub returns : goal.returns
+returns g c =
+    let r = c.result.ensures in
+    let e = BranchResult c.args.call.now.conn c.args.call.now.request c.args.branch c.args.outcome in
+    rw (← c.self.view_is) record { stands = takes_event _ _ e r.stands (c.result.result.seen ∷ [], refl, r.keeps.tally_is) (omega arith) (omega arith) (omega arith); tells = r.tells; keeps = r.keeps; counts = search rules; full = search rules; unchanged = tt; share = search rules; parts = search rules }

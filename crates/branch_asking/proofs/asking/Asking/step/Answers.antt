@@ -1,4 +1,4 @@
-use Rattle.branch_asking.proofs.Words.{sym, ◌∙◌}
+use Rattle.branch_asking.proofs.Words.{refl, sym, ◌∙◌}
 use Rattle.branch_asking.proofs.BegunLemmas.{asks_grown, begun_ends, begun_on}
 use Rattle.branch_asking.proofs.asking.Asking.step.Goals as goal
 
@@ -11,7 +11,7 @@ invariant_of-self-in-Refused g c =
 pub invariant_of-self-in-Ended : goal.invariant_of-self-in-Ended
 invariant_of-self-in-Ended g c =
     let i = c.self.inside in
-    begun_ends i.job i.addresses i.attempt c.step-step.new.self i.end _ c.in-Ended.end i.tried.items (sym c.is_some.ensures ∙ c.if-is_some.false) c.set_end.ensures
+    begun_ends i.job i.addresses i.attempt c.step-step.new.self i.end _ c.in-Ended.end i.tried.items (sym c.is_some.ensures ∙ c.if-is_some.false) refl
     c.step-step.ensures.grows c.unsent_law.ensures (λ a. c.in-Ended.ensures.steps _ a) c.self.invariant
 
 pub returns-in-Waits-clause-on : goal.returns-in-Waits-clause-on

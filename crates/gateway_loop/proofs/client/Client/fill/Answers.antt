@@ -21,12 +21,6 @@ returns-then-lingers-clause-steps g c = steps_same _ _
 pub returns-then-lingers-clause-grows : goal.returns-then-lingers-clause-grows
 returns-then-lingers-clause-grows g c = grows_same _
 
-pub returns-then-not-is_empty-clause-steps : goal.returns-then-not-is_empty-clause-steps
-returns-then-not-is_empty-clause-steps g c = steps_same _ _
-
-pub returns-then-not-is_empty-clause-grows : goal.returns-then-not-is_empty-clause-grows
-returns-then-not-is_empty-clause-grows g c = grows_same _
-
 pub returns-in_default-clause-steps : goal.returns-in_default-clause-steps
 returns-in_default-clause-steps g c =
     rw (← c.self.view_is)

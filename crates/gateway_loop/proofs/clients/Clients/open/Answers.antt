@@ -28,8 +28,8 @@ returns-clause-goes g c =
     (onward _ _ (continues_come _ _ c.open_conn.ensures.keeps.plans_are refl refl refl refl put.result c.new.result (sym (ap (λ (old : List (Option ClientValue)). at put.result old) slots) ∙ put.ensures.was_vacant)
     (subst (λ (old : List (Option ClientValue)). Put old put.new.self.slots put.result (Some c.new.result)) slots puts) refl))
 
-pub returns-then-is_err-clause-goes : goal.returns-then-is_err-clause-goes
-returns-then-is_err-clause-goes g c =
+pub returns-in_err-ok-clause-goes : goal.returns-in_err-ok-clause-goes
+returns-in_err-ok-clause-goes g c =
     let slots : c.reserve.new.self.slots ≡ c.self.inside.clients.slots = ap (λ (s : Slab ClientValue). s.slots) c.reserve.ensures.rest_kept in
     rw (← c.self.view_is) (onward _ _ (continues_all _ _ refl slots refl refl (prefix-refl _) (prefix-refl _) (prefix-refl _)))
 

@@ -2,5 +2,5 @@ use Rattle.gateway_loop.proofs.Words.{◌≡◌}
 use Rattle.gateway_loop.proofs.ends.Ends.tell.Given as goal
 
 -- no moment is told
-abbrev pub invariant-loop-branch : goal.invariant-loop-branch
-invariant-loop-branch g l = g.N.Network.told l.net ≡ g.N.Network.told l.fn.net
+abbrev pub invariant-loop-end : goal.invariant-loop-end
+invariant-loop-end g l = g.N.Network.told l.net ≡ g.N.Network.told l.fn.net

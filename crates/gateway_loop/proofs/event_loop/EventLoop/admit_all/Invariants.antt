@@ -2,6 +2,6 @@ use Rattle.gateway_loop.proofs.Words.{Goes, TellsLoop}
 use Rattle.gateway_loop.proofs.event_loop.EventLoop.admit_all.Given as goal
 
 -- it only went on
-abbrev pub invariant-loop-stream : goal.invariant-loop-stream
-invariant-loop-stream g l =
+abbrev pub invariant-loop-dealt : goal.invariant-loop-dealt
+invariant-loop-dealt g l =
     Goes l.fn.self l.self × TellsLoop (g.N.Network.told l.fn.net) (g.N.Network.told l.net) l.fn.self l.self

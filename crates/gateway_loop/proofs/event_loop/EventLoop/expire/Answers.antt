@@ -4,7 +4,7 @@ use Rattle.gateway_loop.proofs.event_loop.EventLoop.expire.Goals.{in-Client, in-
 
 pub loop-timer-preserved : goal.loop-timer-preserved
 loop-timer-preserved g c = elim c.match-owner.branch [
-  | in-Client w ↦ rw (w.self-is, w.net-is) ((goes_then _ _ _ c.loop-timer.invariant.0 (rw c.self.view_is at w.forget_client.ensures.goes), λ u is. rw (w.forget_client.ensures.told, c.self.view_is) (c.loop-timer.invariant.1 u is)))
+  | in-Client w ↦ rw (w.self-is, w.net-is) ((goes_then _ _ _ c.loop-timer.invariant.0 (rw c.self.view_is at w.drop_client.ensures.goes), λ u is. rw (w.drop_client.ensures.told, c.self.view_is) (c.loop-timer.invariant.1 u is)))
   | in-Exchange w ↦ rw (w.self-is, w.net-is) ((goes_then _ _ _ c.loop-timer.invariant.0 (rw c.self.view_is at w.time_out.ensures.goes), λ u is. w.time_out.ensures.told u (rw c.self.view_is (c.loop-timer.invariant.1 u is))))
 ]
 

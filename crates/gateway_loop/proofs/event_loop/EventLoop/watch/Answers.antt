@@ -4,11 +4,11 @@ use Rattle.gateway_loop.proofs.event_loop.EventLoop.watch.Goals as goal
 pub returns-then-not-watch-clause-told : goal.returns-then-not-watch-clause-told
 returns-then-not-watch-clause-told g c = λ u is. c.lose.ensures.told u (rw c.watch.ensures is)
 
-pub returns-then-not-begin_attempt-clause-goes : goal.returns-then-not-begin_attempt-clause-goes
-returns-then-not-begin_attempt-clause-goes g c = rw (← c.self.view_is) c.lose-then-not-begin_attempt.ensures.goes
+pub returns-then-not-set_time-clause-goes : goal.returns-then-not-set_time-clause-goes
+returns-then-not-set_time-clause-goes g c = rw (← c.self.view_is) c.lose-then-not-set_time.ensures.goes
 
-pub returns-then-not-begin_attempt-clause-told : goal.returns-then-not-begin_attempt-clause-told
-returns-then-not-begin_attempt-clause-told g c = λ u is. c.lose-then-not-begin_attempt.ensures.told u (rw (c.self.view_is, c.watch.ensures) is)
+pub returns-then-not-set_time-clause-told : goal.returns-then-not-set_time-clause-told
+returns-then-not-set_time-clause-told g c = λ u is. c.lose-then-not-set_time.ensures.told u (rw (c.self.view_is, c.watch.ensures) is)
 
 pub returns-then-more-clause-goes : goal.returns-then-more-clause-goes
 returns-then-more-clause-goes g c = rw (← c.self.view_is) c.line_up.ensures.goes

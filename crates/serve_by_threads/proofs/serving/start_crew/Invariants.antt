@@ -1,6 +1,0 @@
-use Rattle.std.proofs.Common.{◌<◌, ◌+◌}
-use Rattle.serve_by_threads.proofs.serving.start_crew.Given as goal
-
--- a part of each ledger is left for each worker that is still to start, and one more
-abbrev pub invariant-loop-worker : goal.invariant-loop-worker
-invariant-loop-worker g l = (l.workers < l.jobs.parts + l._worker) × (l.workers < l.results.parts + l._worker)
