@@ -39,17 +39,18 @@ impl<H: ReplyHook + Drop, W: Wire + Drop> EventLoop<H, W> {
         }
     }
 
-    /// Begins to ask for the jobs that came, and writes the replies that are there, until neither brings anything more.
+    /// Writes the replies that are there, and begins to ask for the jobs that came, until neither brings anything more.
+    /// Replies go first: none waits while others' branches are connected.
     fn settle<N: Network<W>>(&mut self, net: &mut N)
         ensures goes { Goes self.old self.new }
         ensures told { TellsLoop (N.told net.old) (N.told net.new) self.old self.new }
     {
         let mut left = MOST_STARTS;
         for _round in 0..MOST_STARTS {
-            let started = self.start_jobs(net, left);
             self.ends.tell(net);
-            left = left.saturating_sub(started);
             let has_written = self.write_noted(net);
+            let started = self.start_jobs(net, left);
+            left = left.saturating_sub(started);
             if started == 0 && !has_written {
                 break;
             }
