@@ -4,6 +4,7 @@ import json
 import os
 import resource
 import select
+import signal
 import socket
 import struct
 import subprocess
@@ -12,7 +13,7 @@ import time
 from program_room import (
     Backend, DONE, Echo, LONG_BODY, NOT_FOUND, STRAY, Trickle, Untried, WAIT, Wrong, answers, at_once, call, client,
     expect, is_quiet, listener, listens, long_listener, mount, plan, read_message, read_reply, read_to, reply, request,
-    sees_end,
+    sees_end, stop_now,
 )
 
 # so many backends may be asked at the same time by one loop
@@ -132,6 +133,76 @@ def case_behind_a_refusal(room):
                     stream.shutdown(socket.SHUT_WR)
                     sees_end("the stream", stream)
         expect("whether a backend was asked", is_quiet(backend), True)
+    room.ends("the program", run, DONE)
+
+
+def send_urgent(stream, before, behind):
+    """Sends these bytes with an urgent one between them: a read stops short of it, and it is no part of the stream."""
+    stream.sendall(before)
+    stream.send(b"!", socket.MSG_OOB)
+    stream.sendall(behind)
+
+
+def case_urgent_reply(room):
+    """a backend that sends an urgent byte inside its reply is read on"""
+    with listener() as backend:
+        run, port = room.serve(plan([backend.getsockname()[1]], 1), streams=1)
+        with client(port) as stream:
+            for cut in (10, 60, 71):
+                call(stream, "Connect-Timeout-Ms: 5000\r\n")
+                with backend.accept()[0] as asked:
+                    read_message(asked)
+                    # so that all of it is there as the gateway reads
+                    stop_now(run)
+                    send_urgent(asked, reply("1")[:cut], reply("1")[cut:])
+                    run.send_signal(signal.SIGCONT)
+                    expect(f"the reply, cut at {cut}", read_reply(stream), ("200", b'{"b0":1}'))
+    room.ends("the program", run, DONE)
+
+
+def case_urgent_request(room):
+    """a client that sends an urgent byte inside its request is read on, and so from then on"""
+    run, port = room.serve(b"[]", streams=1)
+    with client(port) as stream:
+        answers("before", stream)
+        stream.settimeout(5)
+        for cut in (10, len(STRAY) - 1):
+            stop_now(run)
+            send_urgent(stream, STRAY[:cut], STRAY[cut:])
+            run.send_signal(signal.SIGCONT)
+            expect(f"the reply, cut at {cut}", read_to(stream, len(NOT_FOUND)), NOT_FOUND)
+        answers("afterwards", stream)
+    room.ends("the program", run, DONE)
+
+
+@contextlib.contextmanager
+def narrow_listener():
+    """A socket that listens, to which 65,000 bytes can't be written unless they are read."""
+    with socket.socket() as made:
+        made.setsockopt(socket.SOL_SOCKET, socket.SO_RCVBUF, 1_024)
+        made.setsockopt(socket.IPPROTO_TCP, socket.TCP_MAXSEG, 536)
+        made.bind(("127.0.0.1", 0))
+        made.listen()
+        made.settimeout(WAIT)
+        yield made
+
+
+def case_early_and_deaf(room):
+    """a backend that reads no more, and answers, ends or resets its stream, ends its branch long before the deadline"""
+    with narrow_listener() as backend:
+        run, port = room.serve(plan([backend.getsockname()[1]], 1), streams=1)
+        with client(port) as stream:
+            for end in (
+                lambda asked: asked.sendall(reply("1")),
+                lambda asked: asked.shutdown(socket.SHUT_WR),
+                lambda asked: reset(asked),
+            ):
+                call(stream, f"Connect-Timeout-Ms: {(WAIT - 5) * 1000}\r\n", body=json.dumps("x" * 64_998))
+                with backend.accept()[0] as asked:
+                    read_to(asked, 100)
+                    end(asked)
+                    # at the deadline it would be 504
+                    expect("the status", read_reply(stream)[0], "503")
     room.ends("the program", run, DONE)
 
 

@@ -155,7 +155,7 @@ impl<W: Wire> Asking<W> {
         }
     }
 
-    /// Writes what can be written of the request, and then reads what can be read of the reply.
+    /// Writes what can be written of the request, and reads what can be read of the reply.
     pub fn step(&mut self, edges: &mut Edges) -> Progress
         ensures job { self.new.job ≡ self.old.job }
         ensures on { AsksOn (asked_for self.old) (asked_for self.new) }

@@ -96,7 +96,7 @@ impl<W: Wire> Attempt<W> {
         self.exchange.request().waiting().len()
     }
 
-    /// Writes what can be written of the request, and then reads what can be read of the reply.
+    /// Writes what can be written of the request, and reads what can be read of the reply.
     pub(crate) fn step(&mut self, edges: &mut Edges) -> Step
         ensures steps { Steps self.old result self.new }
         ensures grows { HasGrown self.old self.new }
@@ -110,16 +110,16 @@ impl<W: Wire> Attempt<W> {
         Step::More
     }
 
-    /// Writes once while some of the request is left, and else reads once.
+    /// Writes once while some of the request is left. Reads once where it was written whole, and where its stream takes
+    /// no more for now: a backend may answer, or end its stream, without reading on.
     fn step_once(&mut self, edges: &mut Edges) -> Step
         ensures steps { Steps self.old result self.new }
         ensures grows { HasGrown self.old self.new }
     {
-        if self.exchange.is_sent() {
-            self.receive(edges)
-        } else {
-            self.send(edges)
+        if !self.exchange.is_sent() && (edges.may_write || !self.is_connected) {
+            return self.send(edges);
         }
+        self.receive(edges)
     }
 
     /// Writes once of what is left of the request.
@@ -141,7 +141,7 @@ impl<W: Wire> Attempt<W> {
             }
             Sent::Nothing => {
                 edges.may_write = false;
-                Step::Waits
+                Step::More
             }
             Sent::Interrupted => Step::More,
             Sent::Failed(kind) if self.is_connected => {

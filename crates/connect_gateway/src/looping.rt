@@ -286,10 +286,12 @@ impl<M: NetHost> Network<Told<Socket>> for MioNetwork<M> {
         let Some(descriptor) = wire.stream().descriptor() else {
             return false;
         };
+        // a read stops short at an urgent mark, of which only this tells
+        let reads = Interest::READABLE | Interest::PRIORITY;
         let interests = if writes {
-            Interest::READABLE | Interest::WRITABLE
+            reads | Interest::WRITABLE
         } else {
-            Interest::READABLE
+            reads
         };
         // so it takes no `&mut` of a stream that notes its reads and writes
         let mut source = SourceFd(&descriptor);
@@ -339,5 +341,6 @@ fn ready_of(event: &Event) -> Ready {
         readable: event.is_readable() || event.is_error() || event.is_read_closed(),
         writable: event.is_writable() || event.is_error(),
         read_closed: event.is_read_closed() || event.is_error(),
+        urgent: event.is_priority(),
     }
 }
