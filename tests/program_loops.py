@@ -206,6 +206,44 @@ def case_early_and_deaf(room):
     room.ends("the program", run, DONE)
 
 
+def waiting_ports(backend):
+    """How many streams to that port wait on the side that connected, which closed first (TIME_WAIT)."""
+    with open("/proc/net/tcp", encoding="ascii") as file:
+        fields = [line.split() for line in file]
+    return sum(found[2].endswith(f":{backend:04X}") and found[3] == "06" for found in fields)
+
+
+def case_ports(room):
+    """a backend that closes after its reply was read closes first: no port of the gateway waits"""
+    with listener() as backend:
+        port_asked = backend.getsockname()[1]
+        run, port = room.serve(plan([port_asked], 1), streams=1)
+        with client(port) as stream:
+            for _ in range(20):
+                call(stream)
+                with backend.accept()[0] as asked:
+                    read_message(asked)
+                    asked.sendall(reply("1"))
+                    expect("the reply", read_reply(stream), ("200", b'{"b0":1}'))
+            # if this is held up for longer than the gateway waits, some do
+            expect(f"whether {waiting_ports(port_asked)} of 20 are few", waiting_ports(port_asked) <= 10, True)
+    room.ends("the program", run, DONE)
+
+
+def case_closes_in_the_end(room):
+    """a backend that never closes a stream whose reply came whole has it closed"""
+    with listener() as backend:
+        run, port = room.serve(plan([backend.getsockname()[1]], 1), streams=1)
+        with client(port) as stream:
+            call(stream)
+            with backend.accept()[0] as asked:
+                read_message(asked)
+                asked.sendall(reply("1"))
+                expect("the reply", read_reply(stream), ("200", b'{"b0":1}'))
+                sees_end("the backend", asked)
+    room.ends("the program", run, DONE)
+
+
 def case_three_hundred_pieces(room):
     """a reply of 60,000 bytes in 300 pieces and more is joined byte for byte"""
     body = json.dumps("".join(f"{number:05}" for number in range(12_000)))

@@ -224,11 +224,12 @@ impl<W: Wire + Drop> Asking<W> {
         true
     }
 
-    /// The job. Its stream is closed.
-    pub fn into_job(self) -> Job
-        ensures { result ≡ self.job }
+    /// The job, and its stream, if it has one.
+    pub fn into_parts(self) -> (Job, Option<W>)
+        ensures { result.0 ≡ self.job }
     {
-        self.job
+        let stream = self.attempt.into_wire();
+        (self.job, stream)
     }
 }
 

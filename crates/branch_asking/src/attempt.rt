@@ -184,6 +184,11 @@ impl<W: Wire> Attempt<W> {
 }
 
 impl<W: Wire + Drop> Attempt<W> {
+    /// Its stream, once its address is known.
+    pub(crate) fn into_wire(self) -> Option<W> {
+        Some(self.stream?.into_wire())
+    }
+
     /// It goes over this stream from now on, of which nothing was read or written. Answers the one before, if there
     /// was one.
     pub(crate) fn connect(&mut self, stream: Backend<W>) -> Option<Backend<W>>

@@ -43,6 +43,11 @@ impl<W: Wire> Backend<W> {
         &self.wire
     }
 
+    pub(crate) fn into_wire(self) -> W {
+        let Backend { wire, peer: _ } = self;
+        wire
+    }
+
     /// Reads once, into the first places of the piece.
     pub(crate) fn read(&mut self, piece: &mut [u8; PIECE]) -> Got
         ensures given { Gives self.old.given self.new.given piece.new result }

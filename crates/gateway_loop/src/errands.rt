@@ -3,7 +3,7 @@ ghost use Rattle.std.specs.Prelude.{◌≡◌};
 
 use crate::comings::LookedUp;
 use crate::event_loop::EventLoop;
-use crate::limits::{MOST_ADDRESSES, MOST_EXCHANGES};
+use crate::limits::{CLOSING, MOST_ADDRESSES, MOST_EXCHANGES};
 use crate::tokens::exchange_token;
 use branch_asking::{Edges, Network, Progress};
 use branch_exchange::Loss;
@@ -72,8 +72,8 @@ impl<H: ReplyHook + Drop, W: Wire + Drop> EventLoop<H, W> {
         ensures told { self.new.side.told ≡ self.old.side.told }
     {
         self.exchanges.lose(place, loss);
-        let end = self.exchanges.finish(place);
-        self.ends.keep(end, 0);
+        let finished = self.exchanges.finish(place);
+        self.ends.keep(finished.map(|finished| finished.0), 0);
     }
 
     /// Has the address of the exchange in that place looked up.
@@ -151,6 +151,7 @@ impl<H: ReplyHook + Drop, W: Wire + Drop> EventLoop<H, W> {
             return Progress::Waits;
         };
         errand.edges = Edges::new();
+        errand.has_ended = false;
         self.exchanges.step(place, &mut errand.edges)
     }
 
@@ -232,17 +233,21 @@ impl<H: ReplyHook + Drop, W: Wire + Drop> EventLoop<H, W> {
     }
 
     /// Frees all that the exchange in that place has, and records what came of it: the place of its client, and its
-    /// call.
+    /// call. Its stream waits for its backend's end, if its reply came whole, and that end is not known to be there.
     pub(crate) fn finish(&mut self, place: usize) -> Option<(usize, CallId)>
         ensures goes { Goes self.old self.new }
         ensures told { self.new.side.told ≡ self.old.side.told }
     {
         let name = self.exchanges.asking(place)?.job().address();
         let errand = self.roster.forget_exchange(place, name)?;
-        let end = self.exchanges.finish(place)?;
-        let took = self.clients().moment().saturating_sub(errand.began);
+        let (end, stream) = self.exchanges.finish(place)?;
+        let moment = self.clients().moment();
+        let took = moment.saturating_sub(errand.began);
         let call = end.job.call();
         self.ends.keep(Some(end), took);
+        let stream = stream.filter(|_| !errand.has_ended);
+        let until = moment.saturating_add(CLOSING);
+        self.closing.keep(stream, exchange_token(place), until);
         Some((errand.client, call))
     }
 

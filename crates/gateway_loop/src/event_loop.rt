@@ -7,6 +7,7 @@ ghost use Rattle.loop_model.specs.Whole.{IsExplainedLoop};
 ghost use Rattle.gateway_loop.specs.Loop.{StartsLoop};
 
 use crate::clients::Clients;
+use crate::closing::ClosingStreams;
 use crate::ends::Ends;
 use crate::exchanges::Exchanges;
 use crate::roster::Roster;
@@ -38,6 +39,7 @@ pub struct EventLoop<H, W: Wire> {
     pub(crate) exchanges: Exchanges<H, W>,
     pub(crate) roster: Roster,
     pub(crate) ends: Ends,
+    pub(crate) closing: ClosingStreams<W>,
     // something is left to be done at once
     pub(crate) again: bool,
 }
@@ -61,6 +63,7 @@ impl<H: ReplyHook + Drop, W: Wire + Drop> EventLoop<H, W> {
             alloc,
             roster: Roster::new(alloc)?,
             ends: Ends::new(alloc)?,
+            closing: ClosingStreams::new(alloc)?,
             again: false,
             exchanges: Exchanges::new(alloc, plans)?,
         })
@@ -73,7 +76,11 @@ impl<H: ReplyHook + Drop, W: Wire + Drop> EventLoop<H, W> {
             return Some(0);
         }
         let deadline = self.clients().core().next_deadline();
-        deadline.into_iter().chain(self.roster.next_until()).min()
+        let untils = self.roster.next_until().into_iter();
+        untils
+            .chain(self.closing.next_until())
+            .chain(deadline)
+            .min()
     }
 
     /// How the loop stands.

@@ -292,8 +292,9 @@ impl<H: ReplyHook + Drop, W: Wire + Drop> Exchanges<H, W> {
         let _place = self.asking.insert_reserved(asking);
     }
 
-    /// Records what came of the exchange in that place, which leaves it. How long it took is not told there.
-    pub(crate) fn finish(&mut self, place: usize) -> Option<BranchEnd>
+    /// Records what came of the exchange in that place, which leaves it: how long it took is not told there. Its stream
+    /// too, if its reply came whole.
+    pub(crate) fn finish(&mut self, place: usize) -> Option<(BranchEnd, Option<W>)>
         ensures goes { Goes self.old self.new }
         ensures told { self.new.side.told ≡ self.old.side.told }
     {
@@ -303,13 +304,14 @@ impl<H: ReplyHook + Drop, W: Wire + Drop> Exchanges<H, W> {
         let outcome = asking.conclude(self.alloc);
         let cause = cause.settled(&outcome);
         self.ended = self.ended.and(&asking, &outcome);
-        let job = asking.into_job();
+        let (job, stream) = asking.into_parts();
         self.clients.record(&job, outcome);
-        Some(BranchEnd {
+        let end = BranchEnd {
             job,
             cause,
             status,
             took: 0,
-        })
+        };
+        Some((end, stream.filter(|_| status.is_some())))
     }
 }

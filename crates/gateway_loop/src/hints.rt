@@ -43,6 +43,8 @@ pub(crate) struct Errand {
     // the moment at which it began
     pub(crate) began: u64,
     pub(crate) edges: Edges,
+    // whether its backend is known to have ended its stream
+    pub(crate) has_ended: bool,
     // whether its time limit is that of its address
     pub(crate) is_timed: bool,
     // its number among those that wait for its name
@@ -58,6 +60,7 @@ impl Errand {
             client,
             began,
             edges: Edges::new(),
+            has_ended: false,
             is_timed: false,
             waits: None,
             is_in_line: false,

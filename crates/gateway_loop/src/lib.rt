@@ -4,6 +4,7 @@
 
 mod client;
 mod clients;
+mod closing;
 mod comings;
 mod ends;
 mod errands;
@@ -21,4 +22,4 @@ mod tokens;
 pub use branch_asking::{BranchEnd, Network, Ready};
 pub use comings::{Comings, Dealt, LookedUp};
 pub use event_loop::{EventLoop, LoopStanding};
-pub use limits::{MOST_ADDRESSES, MOST_EXCHANGES, MOST_LINGERING};
+pub use limits::{MOST_ADDRESSES, MOST_CLOSING, MOST_EXCHANGES, MOST_LINGERING};

@@ -4,6 +4,9 @@ pub const MOST_EXCHANGES: usize = 1_024;
 /// So many connections linger at most; a further one is closed at once.
 pub const MOST_LINGERING: usize = 64;
 
+/// So many streams to backends wait for the backend's end at most; where one more does, the oldest is closed.
+pub const MOST_CLOSING: usize = 64;
+
 /// So many addresses of a name are tried at most.
 pub const MOST_ADDRESSES: usize = 32;
 
@@ -21,6 +24,9 @@ pub(crate) const MOST_STARTS: u32 = 256;
 
 /// How long a connection lingers, in milliseconds.
 pub(crate) const LINGER: u64 = 2_000;
+
+/// How long a stream whose reply came whole waits for its backend's end, in milliseconds.
+pub(crate) const CLOSING: u64 = 50;
 
 /// How long an address has to accept that another follows, where the job has no deadline, in milliseconds.
 pub(crate) const ATTEMPT: u64 = 1_000;

@@ -34,7 +34,8 @@ impl<H: ReplyHook + Drop, W: Wire + Drop> EventLoop<H, W> {
         self.admit_all(net, &mut comings.streams);
         self.take_found(net, &mut comings.found);
         for ready in comings.ready.drain(..) {
-            self.roster.note_ready(ready);
+            let is_shared = self.closing.note_ready(ready);
+            self.roster.note_ready(ready, is_shared);
             self.line_up(ready.token);
         }
     }

@@ -55,8 +55,9 @@ impl Roster {
         }
     }
 
-    /// Notes what became possible. A token that names nobody changes nothing.
-    pub(crate) fn note_ready(&mut self, ready: Ready) {
+    /// Notes what became possible; whether that may be told of another's stream, too, that had the token before. A token
+    /// that names nobody changes nothing.
+    pub(crate) fn note_ready(&mut self, ready: Ready, is_shared: bool) {
         match owner_of(ready.token) {
             Owner::Client(place) => {
                 if let Some(hints) = self.hints.get_mut(place) {
@@ -66,6 +67,7 @@ impl Roster {
             Owner::Exchange(place) => {
                 if let Some(errand) = self.errands.get_mut(place) {
                     errand.edges.note(ready);
+                    errand.has_ended |= ready.read_closed && !is_shared;
                 }
             }
         }

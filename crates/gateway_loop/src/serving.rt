@@ -223,8 +223,18 @@ impl<H: ReplyHook + Drop, W: Wire + Drop> EventLoop<H, W> {
         }
     }
 
-    /// Ends the exchanges whose time is over, and lets go of those that lingered long enough.
+    /// Ends the exchanges whose time is over, and lets go of clients and streams that waited long enough.
     pub(crate) fn expire<N: Network<W>>(&mut self, net: &mut N)
+        ensures goes { Goes self.old self.new }
+        ensures told { TellsLoop (N.told net.old) (N.told net.new) self.old self.new }
+    {
+        let moment = self.clients().moment();
+        self.closing.expire(moment);
+        self.expire_timers(net);
+    }
+
+    /// Ends the exchanges whose time is over, and lets go of clients that lingered long enough.
+    fn expire_timers<N: Network<W>>(&mut self, net: &mut N)
         ensures goes { Goes self.old self.new }
         ensures told { TellsLoop (N.told net.old) (N.told net.new) self.old self.new }
     {

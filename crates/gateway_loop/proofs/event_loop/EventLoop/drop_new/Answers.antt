@@ -3,7 +3,7 @@ use Rattle.gateway_loop.proofs.AskLemmas.{goes_then}
 use Rattle.gateway_loop.proofs.event_loop.EventLoop.drop_new.Goals as goal
 
 pub returns-clause-goes : goal.returns-clause-goes
-returns-clause-goes g c = rw (← c.self.view_is) (goes_then _ _ _ c.lose.ensures.goes c.finish-end.ensures.goes)
+returns-clause-goes g c = rw (← c.self.view_is) (goes_then _ _ _ c.lose.ensures.goes c.finish-finished.ensures.goes)
 
 pub returns-clause-told : goal.returns-clause-told
-returns-clause-told g c = rw (c.finish-end.ensures.told, c.lose.ensures.told, c.self.view_is) refl
+returns-clause-told g c = rw (c.finish-finished.ensures.told, c.lose.ensures.told, c.self.view_is) refl

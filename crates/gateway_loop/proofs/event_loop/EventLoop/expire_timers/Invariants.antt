@@ -1,5 +1,5 @@
 use Rattle.gateway_loop.proofs.Words.{Goes, TellsLoop}
-use Rattle.gateway_loop.proofs.event_loop.EventLoop.expire.Given as goal
+use Rattle.gateway_loop.proofs.event_loop.EventLoop.expire_timers.Given as goal
 
 -- it only went on
 abbrev pub invariant-loop-timer : goal.invariant-loop-timer

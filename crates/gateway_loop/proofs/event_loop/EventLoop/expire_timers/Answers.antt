@@ -1,6 +1,6 @@
 use Rattle.gateway_loop.proofs.AskLemmas.{goes_then}
-use Rattle.gateway_loop.proofs.event_loop.EventLoop.expire.Goals as goal
-use Rattle.gateway_loop.proofs.event_loop.EventLoop.expire.Goals.{in-Client, in-Exchange}
+use Rattle.gateway_loop.proofs.event_loop.EventLoop.expire_timers.Goals as goal
+use Rattle.gateway_loop.proofs.event_loop.EventLoop.expire_timers.Goals.{in-Client, in-Exchange}
 
 pub loop-timer-preserved : goal.loop-timer-preserved
 loop-timer-preserved g c = elim c.match-owner.branch [
