@@ -7,6 +7,7 @@
  *   refused      there is no memory (of `allocate`)
  *   failed       an input or output fault
  *   reset        the peer has reset the stream
+ *   portless     no port is left (of `connect`)
  *   short        one byte is moved, where more was asked for; that more can be received is told anew
  *   interrupted  a signal came before anything was moved
  *   lasting      an input or output fault, and so does each such call of the same thread from then on
@@ -83,7 +84,7 @@ static int is(const char *word) { return strcmp(how, word) == 0; }
 
 /* Sets the fault of a call that moves nothing. */
 static int faulty(void) {
-    errno = is("interrupted") ? EINTR : is("reset") ? ECONNRESET : is("refused") ? ENOMEM : EIO;
+    errno = is("interrupted") ? EINTR : is("reset") ? ECONNRESET : is("refused") ? ENOMEM : is("portless") ? EADDRNOTAVAIL : EIO;
     return -1;
 }
 

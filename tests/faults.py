@@ -237,6 +237,18 @@ def case_serve_fails(room):
             serve_each(room, what, how, judge_apart)
 
 
+def case_serve_no_port(room):
+    """serve: a connection for which no port is left concerns one stream, and its cause is told"""
+    with Backend() as backend:
+        env = {"LD_PRELOAD": LIBRARY[0], "FAULT": "connect 2 portless"}
+        run, port = room.serve(plan([backend.port], 1), streams=3, log=True, variables=env)
+        found = ask_three(port)
+        said = run.communicate(timeout=WAIT)[1]
+    expect("which calls are answered", [one == ANSWER for one in found], [True, False, True])
+    lines = [json.loads(line) for line in said.splitlines()]
+    expect("the cause", [line["cause"] for line in lines if "cause" in line], ["no port"])
+
+
 def judge_cut(name, met, found, end):
     """The same where a stream may be cut before its request is read."""
     judge_apart(name, met, [one.removesuffix(b" (reset)") for one in found], end)

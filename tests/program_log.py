@@ -97,7 +97,7 @@ ANSWERS = [
     (reply_of(LENGTH), "unexpected content type", 200),
     (reply_of(JSON, LENGTH, body="x"), "not JSON", 200),
     (reply_of(JSON, "Content-Length: 2"), "closed early", None),
-    (b"", "closed early", None),
+    (b"", "ended without a byte", None),
     (b"nonsense\r\n\r\n", "bad head", None),
     (reply_of(JSON, "Transfer-Encoding: chunked", body="1\r\n1\r\n0\r\n\r\n"), "no fixed length", None),
     (reply_of(JSON), "no fixed length", None),
@@ -173,7 +173,7 @@ def case_log_of_branches_given_up(room):
         said = run.communicate(timeout=WAIT)[1]
     found = [(line["connection"], line["request"], line["branch"], line["cause"], line["request_id"]) for line in branches_told(said)]
     expect("what is told", sorted(found), [
-        (0, 0, "b0", "not wanted any more", None), (0, 0, "b1", "closed early", None),
+        (0, 0, "b0", "not wanted any more", None), (0, 0, "b1", "ended without a byte", None),
         (0, 1, "b0", "not wanted any more", None), (0, 1, "b1", "not wanted any more", None),
         (1, 0, "b0", "drained", None), (1, 0, "b1", "drained", None)])
 

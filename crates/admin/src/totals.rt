@@ -15,7 +15,7 @@ pub const MOST_MILLISECONDS: [u64; 13] = [
 pub(crate) const ENDINGS: usize = 9;
 
 /// So many causes there are that end the asking of a backend.
-pub(crate) const CAUSES: usize = 21;
+pub(crate) const CAUSES: usize = 23;
 
 /// What came of the replies to the calls of one plan, or to those that are no call.
 #[derive(Clone, Copy, PartialEq, Eq, Debug)]
@@ -81,11 +81,13 @@ pub(crate) const ALL_CAUSES: [Cause; CAUSES] = [
     Cause::TooManyPieces,
     Cause::NoDescriptor,
     Cause::NoMemory,
+    Cause::NoPort,
+    Cause::NoByte,
 ];
 
 /// The place of the cause among those that are counted: there it is told again.
 pub(crate) fn place_of_cause(cause: Cause) -> usize
-    ensures within { result < 21 }
+    ensures within { result < 23 }
     ensures its { slice_index_or ALL_CAUSES result Failed ≡ cause }
 {
     match cause {
@@ -110,6 +112,8 @@ pub(crate) fn place_of_cause(cause: Cause) -> usize
         Cause::TooManyPieces => 18,
         Cause::NoDescriptor => 19,
         Cause::NoMemory => 20,
+        Cause::NoPort => 21,
+        Cause::NoByte => 22,
     }
 }
 

@@ -77,6 +77,11 @@ impl<W: Wire> Attempt<W> {
         self.is_connected
     }
 
+    /// Whether its stream has not taken a byte yet.
+    pub fn is_connecting(&self) -> bool {
+        self.stream.is_some() && !self.is_connected
+    }
+
     /// While it has no stream, nothing was written. It does nothing.
     pub(crate) fn unsent_law(&self)
         ensures { IsUnsent self.now }
@@ -178,7 +183,7 @@ impl<W: Wire> Attempt<W> {
             }
             Got::Interrupted => Step::More,
             Got::End(Some(kind)) => Step::Ended(ExchangeEnd::Lost(Loss::Read(kind))),
-            Got::End(None) => Step::Ended(ExchangeEnd::Lost(Loss::End)),
+            Got::End(None) => Step::Ended(ExchangeEnd::Lost(self.exchange.loss_at_end())),
         }
     }
 }

@@ -18,7 +18,7 @@ use Rattle.branch_exchange.specs.declared.exchange_end.Loss.TheVariants as loss
 use Rattle.branch_causes.specs.declared.cause.Cause.{Cause}
 use Rattle.branch_causes.specs.declared.cause.Cause.TheVariants.{Answer, Status, ContentType, NotJson, Deadline}
 use Rattle.branch_causes.specs.declared.cause.Cause.TheVariants.{NotWanted, Drained, NoSuchName, Refused, NoRoute}
-use Rattle.branch_causes.specs.declared.cause.Cause.TheVariants.{NoConnection, Reset, Failed, ClosedEarly}
+use Rattle.branch_causes.specs.declared.cause.Cause.TheVariants.{NoPort, NoConnection, Reset, Failed, NoByte, ClosedEarly}
 use Rattle.branch_causes.specs.declared.cause.Cause.TheVariants.{BeforeRequest, BadHead, NoFixedLength, TooLong}
 use Rattle.branch_causes.specs.declared.cause.Cause.TheVariants.{TooManyPieces, NoDescriptor, NoMemory}
 
@@ -31,6 +31,7 @@ cause_of_kind kind.BrokenPipe = Reset
 cause_of_kind kind.HostUnreachable = NoRoute
 cause_of_kind kind.NetworkUnreachable = NoRoute
 cause_of_kind kind.NetworkDown = NoRoute
+cause_of_kind kind.AddrNotAvailable = NoPort
 cause_of_kind kind.TimedOut = NoConnection
 cause_of_kind kind.QuotaExceeded = NoDescriptor
 cause_of_kind kind.OutOfMemory = NoMemory
@@ -52,6 +53,7 @@ cause_of_loss loss.NoAddress = NoSuchName
 cause_of_loss loss.NotWatched = NoDescriptor
 cause_of_loss (loss.Write kind) = cause_of_kind kind
 cause_of_loss (loss.Read kind) = cause_of_kind kind
+cause_of_loss loss.NoByte = NoByte
 cause_of_loss loss.End = ClosedEarly
 cause_of_loss (loss.Refused fault) = cause_of_fault fault
 cause_of_loss loss.Early = BeforeRequest
@@ -69,9 +71,11 @@ cause_name Drained = codes "drained"
 cause_name NoSuchName = codes "no such name"
 cause_name Refused = codes "refused"
 cause_name NoRoute = codes "no route"
+cause_name NoPort = codes "no port"
 cause_name NoConnection = codes "no connection in time"
 cause_name Reset = codes "reset"
 cause_name Failed = codes "failed"
+cause_name NoByte = codes "ended without a byte"
 cause_name ClosedEarly = codes "closed early"
 cause_name BeforeRequest = codes "reply before the request"
 cause_name BadHead = codes "bad head"

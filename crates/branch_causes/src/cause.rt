@@ -32,12 +32,16 @@ pub enum Cause {
     Refused,
     /// There is no way to the address.
     NoRoute,
+    /// No port of the gateway's machine was left for the connection.
+    NoPort,
     /// The address did not accept the connection in its time.
     NoConnection,
     /// The backend broke the connection.
     Reset,
     /// Reading or writing failed otherwise.
     Failed,
+    /// The stream ended before a byte of a reply came.
+    NoByte,
     /// The stream ended before the reply was whole.
     ClosedEarly,
     /// The reply came before its request was written whole.
@@ -83,9 +87,11 @@ impl Cause {
             Cause::NoSuchName => "no such name",
             Cause::Refused => "refused",
             Cause::NoRoute => "no route",
+            Cause::NoPort => "no port",
             Cause::NoConnection => "no connection in time",
             Cause::Reset => "reset",
             Cause::Failed => "failed",
+            Cause::NoByte => "ended without a byte",
             Cause::ClosedEarly => "closed early",
             Cause::BeforeRequest => "reply before the request",
             Cause::BadHead => "bad head",
@@ -130,6 +136,7 @@ fn cause_of_loss(loss: Loss) -> Cause
         Loss::NoAddress => Cause::NoSuchName,
         Loss::NotWatched => Cause::NoDescriptor,
         Loss::Write(kind) | Loss::Read(kind) => cause_of_kind(kind),
+        Loss::NoByte => Cause::NoByte,
         Loss::End => Cause::ClosedEarly,
         Loss::Refused(fault) => cause_of_fault(fault),
         Loss::Early => Cause::BeforeRequest,
@@ -160,6 +167,7 @@ fn cause_of_kind(kind: ErrorKind) -> Cause
         ErrorKind::HostUnreachable | ErrorKind::NetworkUnreachable | ErrorKind::NetworkDown => {
             Cause::NoRoute
         }
+        ErrorKind::AddrNotAvailable => Cause::NoPort,
         ErrorKind::TimedOut => Cause::NoConnection,
         ErrorKind::QuotaExceeded => Cause::NoDescriptor,
         ErrorKind::OutOfMemory => Cause::NoMemory,

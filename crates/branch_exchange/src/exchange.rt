@@ -80,6 +80,15 @@ impl Exchange {
         }
     }
 
+    /// Why no reply comes if its stream ends now: before any piece, or within the reply.
+    pub fn loss_at_end(&self) -> Loss {
+        if self.reads == 0 {
+            Loss::NoByte
+        } else {
+            Loss::End
+        }
+    }
+
     #[tactic(auto, using(crate::proofs::ExchangeLemmas::lost_by))]
     /// A piece more was read. None where the reply may become whole.
     fn go_on(&mut self) -> Option<ExchangeEnd>

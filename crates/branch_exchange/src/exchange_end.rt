@@ -31,6 +31,8 @@ pub enum Loss {
     Write(ErrorKind),
     /// A read failed so.
     Read(ErrorKind),
+    /// The stream ended before a byte of a reply came.
+    NoByte,
     /// The stream ended before the reply was whole.
     End,
     /// What came is no reply that is taken.

@@ -179,7 +179,8 @@ impl<H: ReplyHook + Drop, W: Wire + Drop> EventLoop<H, W> {
         ensures told { TellsLoop (N.told net.old) (N.told net.new) self.old self.new }
     {
         if self.exchanges.is_connected(place) || self.exchanges.is_late(place) {
-            self.lose(net, place, Some(Loss::Deadline));
+            let loss = self.exchanges.loss_at_deadline(place);
+            self.lose(net, place, Some(loss));
         } else {
             self.try_next(net, place, Loss::Write(ErrorKind::TimedOut));
         }
@@ -276,7 +277,7 @@ impl<H: ReplyHook + Drop, W: Wire + Drop> EventLoop<H, W> {
     {
         // where its own time or its call's ended the call, that is why
         let loss = if self.exchanges.is_late(place) {
-            Loss::Deadline
+            self.exchanges.loss_at_deadline(place)
         } else {
             Loss::NotWanted
         };

@@ -20,6 +20,7 @@ use http_server::Log;
 use slab::Slab;
 use std::alloc::{AllocError, Global};
 use std::collections::VecDeque;
+use std::io::ErrorKind;
 use std::marker::Model;
 use std::net::SocketAddr;
 use wires::Wire;
@@ -178,6 +179,15 @@ impl<H: ReplyHook + Drop, W: Wire + Drop> Exchanges<H, W> {
     /// Whether that deadline has come.
     pub(crate) fn is_late(&self, place: usize) -> bool {
         is_due(self.deadline_of(place), self.clients.moment())
+    }
+
+    /// Why the exchange in that place is lost where that deadline has come: its address has not accepted a connection, or
+    /// else.
+    pub(crate) fn loss_at_deadline(&self, place: usize) -> Loss {
+        match self.asking.get(place) {
+            Some(asking) if asking.attempt().is_connecting() => Loss::Write(ErrorKind::TimedOut),
+            _ => Loss::Deadline,
+        }
     }
 
     /// Until when the new stream of the exchange in that place has to take a byte. None where no other address follows.
