@@ -197,12 +197,12 @@ impl<H: ReplyHook + Drop, W: Wire + Drop> Exchanges<H, W> {
             return None;
         }
         let moment = self.clients.moment();
-        // half of the time that is left, and at least a millisecond
-        let time = match asking.job().deadline() {
-            Some(deadline) => (deadline.saturating_sub(moment) / 2).max(1),
-            None => ATTEMPT,
+        let Some(deadline) = asking.job().deadline() else {
+            return Some(moment.saturating_add(ATTEMPT));
         };
-        Some(moment.saturating_add(time))
+        // half of the time that is left, and at least a millisecond, if there is one
+        let time = (deadline.saturating_sub(moment) / 2).max(1);
+        Some(moment.saturating_add(time).min(deadline))
     }
 
     /// Watches the stream of the exchange in that place. False where it can't be.
