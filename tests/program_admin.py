@@ -4,6 +4,7 @@ import concurrent.futures
 import contextlib
 import json
 import re
+import select
 import shutil
 import signal
 import socket
@@ -20,6 +21,10 @@ from program_room import (
 DRAINING = '{"code":"unavailable","message":"gateway is draining"}'
 
 
+# what every request to the address for operators names
+HOST = "Host: localhost\r\n"
+
+
 def serve(room, plans, *words, **how):
     """Starts the gateway with an address for operators. Returns its run, its port and that of the address."""
     port = free_port()
@@ -31,7 +36,7 @@ def serve(room, plans, *words, **how):
     return room.start(given + list(words), **how), port, where
 
 
-def visit(where, asked=b"GET /ready HTTP/1.1\r\nHost: g\r\n\r\n"):
+def visit(where, asked=f"GET /ready HTTP/1.1\r\n{HOST}\r\n".encode()):
     """What the address for operators says, to its end."""
     with client(where) as stream:
         stream.sendall(asked)
@@ -40,7 +45,7 @@ def visit(where, asked=b"GET /ready HTTP/1.1\r\nHost: g\r\n\r\n"):
 
 def asks(where, path, method="GET", fields=""):
     """The status and the text that a request there is answered by."""
-    said = visit(where, f"{method} {path} HTTP/1.1\r\nHost: g\r\n{fields}\r\n".encode())
+    said = visit(where, f"{method} {path} HTTP/1.1\r\n{HOST}{fields}\r\n".encode())
     head, _, text = said.partition(b"\r\n\r\n")
     expect(f"the last field of {method} {path}", head.split(b"\r\n")[-1], b"Connection: close")
     return int(head[9:12]), text.decode()
@@ -113,42 +118,131 @@ def case_admin_answers(room):
     expect("a path that is none", asks(where, "/")[0], 404)
     expect("a path that is longer", asks(where, "/metrics/")[0], 404)
     for path, method, allowed in (("/metrics", "POST", "GET"), ("/ready", "HEAD", "GET"), ("/drain", "GET", "POST")):
-        said = visit(where, f"{method} {path} HTTP/1.1\r\nHost: g\r\n\r\n".encode())
+        said = visit(where, f"{method} {path} HTTP/1.1\r\n{HOST}\r\n".encode())
         expect(f"{method} {path}", said, b"HTTP/1.1 405 Method Not Allowed\r\nAllow: %s\r\nContent-Length: 0\r\n"
                b"Connection: close\r\n\r\n" % allowed.encode())
-    for sent in (b"nonsense\r\n\r\n", b"GET /ready HTTP/1.1\r\n\r\n", b"GET /ready HTTP/1.1\r\nHost: g\r\nTransfer-Encoding: chunked\r\n\r\n",
-                 b"GET /ready HTTP/1.1\r\nHost: g\r\nContent-Length: 65537\r\n\r\n", b"GET /" + b"x" * 9_000):
+    for sent in (b"nonsense\r\n\r\n", b"GET /ready HTTP/1.1\r\n\r\n", b"GET /ready HTTP/1.1\r\nHost: 1.2.3.4\r\nTransfer-Encoding: chunked\r\n\r\n",
+                 b"GET /ready HTTP/1.1\r\nHost: 1.2.3.4\r\nContent-Length: 65537\r\n\r\n", b"GET /" + b"x" * 9_000):
         with client(port) as stream:
             stream.sendall(sent)
             as_client = read_to(stream, 1_000)
         expect(f"the refusal of {sent[:40]}", visit(where, sent), as_client)
     # one request, and no further one
-    said = visit(where, STRAY * 3)
+    said = visit(where, STRAY.replace(b"Host: g\r\n", HOST.encode()) * 3)
     expect("of three requests", said.count(b"HTTP/1.1 "), 1)
     # byte by byte
     with client(where) as stream:
-        for byte in b"GET /ready HTTP/1.1\r\nHost: g\r\n\r\n":
+        for byte in b"GET /ready HTTP/1.1\r\nHost: 127.0.0.1\r\n\r\n":
             stream.sendall(bytes([byte]))
         expect("byte by byte", read_to(stream, 15), b"HTTP/1.1 200 OK")
     run.send_signal(signal.SIGTERM)
 
 
-def case_admin_of_many(room):
-    """sixteen visitors are served at once, further ones are closed, and each has to go after two seconds"""
+def case_admin_of_silent(room):
+    """beside sixteen silent visitors another is answered: who is silent longest makes room, and each goes after two seconds"""
     run, port, where = serve(room, plan([1], 1))
     with contextlib.ExitStack() as opened:
         began = time.monotonic()
-        idle = [opened.enter_context(client(where)) for _ in range(16)]
-        time.sleep(0.2)
-        for _ in range(30):
-            with client(where) as stream:
-                sees_end("a seventeenth", stream)
+        silent = []
+        for _ in range(16):
+            silent.append(opened.enter_context(client(where)))
+            time.sleep(0.02)
+        silent[0].sendall(b"GET /re")
+        time.sleep(0.1)
+        expect("whether it is ready beside them", asks(where, "/ready"), (200, "ready"))
+        sees_end("who was silent longest", silent[1])
+        expect("whether the others stay", select.select(silent[:1] + silent[2:], [], [], 0)[0], [])
         answers("a client beside them", opened.enter_context(client(port)))
-        for stream in idle:
-            sees_end("an idle visitor", stream)
+        silent[0].sendall(f"ady HTTP/1.1\r\n{HOST}\r\n".encode())
+        expect("who asks at last", read_to(silent[0], 15), b"HTTP/1.1 200 OK")
+        for stream in silent[2:]:
+            sees_end("a silent visitor", stream)
         took = time.monotonic() - began
-        expect(f"whether they go after two seconds, {took}", 1.8 < took < 10, True)
+        expect(f"whether they go after two seconds, {took}", 1.8 < took < 15, True)
     expect("whether it is ready", asks(where, "/ready"), (200, "ready"))
+    run.send_signal(signal.SIGTERM)
+
+
+def case_admin_of_slow_readers(room):
+    """who has asked stays beside sixteen others that read slowly, and one more is closed"""
+    plans = [{**json.loads(plan([1], 1))[0], "path": f"/{number}" + "x" * 900} for number in range(250)]
+    run, _, where = serve(room, json.dumps(plans).encode())
+    expect("whether it is ready", asks(where, "/ready"), (200, "ready"))
+    with contextlib.ExitStack() as opened:
+        slow = []
+        for _ in range(16):
+            stream = opened.enter_context(socket.socket())
+            stream.setsockopt(socket.SOL_SOCKET, socket.SO_RCVBUF, 4096)
+            stream.settimeout(WAIT)
+            stream.connect(("127.0.0.1", where))
+            stream.sendall(f"GET /metrics HTTP/1.1\r\n{HOST}\r\n".encode())
+            expect("the first bytes of the figures", read_to(stream, 15), b"HTTP/1.1 200 OK")
+            slow.append(stream)
+        with client(where) as more:
+            sees_end("one more", more)
+        time.sleep(2.5)
+        expect("whether it is ready once they had to go", asks(where, "/ready"), (200, "ready"))
+    run.send_signal(signal.SIGTERM)
+
+
+def case_admin_of_another_origin(room):
+    """a page of another origin, a form and a branch can't end the gateway, and none reads its figures under another name"""
+    run, port, where = serve(room, b"[]")
+    for host in ("evil.example", f"evil.example:{where}", f"127.0.0.1.evil.example:{where}", "g"):
+        said = visit(where, f"GET /metrics HTTP/1.1\r\nHost: {host}\r\n\r\n".encode())
+        expect(f"the figures under {host}", said[:34], b"HTTP/1.1 421 Misdirected Request\r\n")
+    for fields in ("Origin: http://evil.example\r\n", "Origin: null\r\n", "Connect-Protocol-Version: 1\r\n",
+                   "Content-Type: application/x-www-form-urlencoded\r\n", "Content-Type: text/plain\r\n",
+                   "Content-Type: multipart/form-data; boundary=x\r\n"):
+        expect(f"a drain with {fields}", asks(where, "/drain", "POST", fields)[0], 403)
+    expect("whether it is ready", asks(where, "/ready"), (200, "ready"))
+    # as curl and haproxy ask
+    expect("with no host", visit(where, b"GET /ready HTTP/1.0\r\n\r\n")[:15], b"HTTP/1.1 200 OK")
+    if shutil.which("curl"):
+        for name in (f"127.0.0.1:{where}", f"localhost:{where}"):
+            said = subprocess.run(["curl", "-4", "-s", f"http://{name}/ready"], capture_output=True, timeout=WAIT)
+            expect(f"what curl is told at {name}", said.stdout, b"ready")
+        said = subprocess.run(["curl", "-s", "-X", "POST", f"http://127.0.0.1:{where}/drain"], capture_output=True, timeout=WAIT)
+        expect("what curl is told of a drain", said.stdout, b"draining")
+    else:
+        drain(where)
+    room.ends("drained", run, DONE)
+
+
+def case_ready_alone(room):
+    """the address of --ready tells figures and readiness under any name, with --admin and without, and drains nothing"""
+    made = room.file("plans", b"[]")
+    for with_admin in (False, True):
+        port, where, watched = free_port(), free_port(), free_port()
+        words = ["--admin", f"127.0.0.1:{where}", "--drain-after", "1"] if with_admin else []
+        run = room.start(["serve", "--listen", f"127.0.0.1:{port}", "--plans", made, "--workers", "1",
+                          "--ready", f"127.0.0.1:{watched}", *words])
+        for path in ("/ready", "/metrics"):
+            said = visit(watched, f"GET {path} HTTP/1.1\r\nHost: balancer.example\r\n\r\n".encode())
+            expect(f"{path} under any name", said[:15], b"HTTP/1.1 200 OK")
+        expect("a drain", asks(watched, "/drain", "POST")[0], 404)
+        expect("whether it is ready", asks(watched, "/ready"), (200, "ready"))
+        if with_admin:
+            drain(where)
+            expect("whether it is ready in a drain", asks(watched, "/ready"), (503, "draining"))
+            room.ends("drained", run, DONE)
+        else:
+            run.send_signal(signal.SIGTERM)
+
+
+def case_own_addresses(room):
+    """a branch at the gateway's own addresses is warned of, by check and at the start"""
+    made = room.file("plans", plan([9081], 1, 1_000))
+    said = subprocess.run([room.program, "check", "--plans", made, "--strict"], capture_output=True, timeout=WAIT)
+    expect("check alone", (said.returncode, said.stdout.count(b"here the gateway itself listens")), (0, 0))
+    for word in ("--listen", "--admin", "--ready"):
+        said = subprocess.run([room.program, "check", "--plans", made, "--strict", word, "127.0.0.1:9081"],
+                              capture_output=True, timeout=WAIT)
+        expect(f"check with {word}", (said.returncode, said.stdout.count(b"here the gateway itself listens")), (3, 1))
+    port = free_port()
+    run = room.start(["serve", "--listen", f"127.0.0.1:{port}", "--plans", room.file("plans", plan([port], 1, 1_000)), "--workers", "1", "--log"])
+    line = json.loads(run.stderr.readline())
+    expect("the warning at the start", line["warning"].endswith(f'"127.0.0.1:{port}": here the gateway itself listens'), True)
     run.send_signal(signal.SIGTERM)
 
 
@@ -615,7 +709,7 @@ def case_admin_abused(room):
         slow.setsockopt(socket.SOL_SOCKET, socket.SO_RCVBUF, 4096)
         slow.settimeout(WAIT)
         slow.connect(("127.0.0.1", where))
-        slow.sendall(b"GET /metrics HTTP/1.1\r\nHost: g\r\n\r\n")
+        slow.sendall(f"GET /metrics HTTP/1.1\r\n{HOST}\r\n".encode())
         idle = [opened.enter_context(client(where)) for _ in range(200)]
         with concurrent.futures.ThreadPoolExecutor(4) as pool:
             abusers = [pool.submit(send_nonsense, where, 250) for _ in range(4)]

@@ -167,7 +167,7 @@ def case_log_of_branches_given_up(room):
             with client(port) as stream:
                 ask(stream)
                 with client(where) as visitor:
-                    visitor.sendall(b"POST /drain HTTP/1.1\r\nHost: g\r\n\r\n")
+                    visitor.sendall(b"POST /drain HTTP/1.1\r\nHost: localhost\r\n\r\n")
                     read_to(visitor, 1000)
                 expect("at a drain", read_reply(stream)[0], "503")
         said = run.communicate(timeout=WAIT)[1]

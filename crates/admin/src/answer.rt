@@ -2,7 +2,7 @@ ghost use Rattle.std.specs.Prelude.{◌≡◌, IfOk, true, codes};
 ghost use Rattle.error_document.specs.Documents.{plain_error};
 ghost use Rattle.connect_codec.specs.Reply.{bare_reply, error_reply};
 ghost use Rattle.gateway_model.specs.Arrival.{refusal_reply};
-ghost use Rattle.admin.specs.Answer.{metrics_reply, ok_reply, only_get_reply, ready_reply, unavailable_reply};
+ghost use Rattle.admin.specs.Answer.{forbidden_reply, metrics_reply, misdirected_reply, only_get_reply, ready_reply, text_reply};
 
 use connect_codec::{bare_reply, error_reply};
 use error_document::{Code, RpcError};
@@ -41,43 +41,53 @@ pub fn ready_reply(alloc: Global, readiness: Readiness) -> Result<Bytes, AllocEr
     ensures { IfOk result (λ reply. reply ≡ ready_reply readiness) }
 {
     match readiness {
-        Readiness::Ready => ok_reply(alloc, b"ready"),
-        Readiness::Full => unavailable_reply(alloc, b"full"),
-        Readiness::Draining => unavailable_reply(alloc, b"draining"),
-        Readiness::Closed => unavailable_reply(alloc, b"closed"),
+        Readiness::Ready => text_reply(alloc, "200 OK", "ready"),
+        Readiness::Full => text_reply(alloc, "503 Service Unavailable", "full"),
+        Readiness::Draining => text_reply(alloc, "503 Service Unavailable", "draining"),
+        Readiness::Closed => text_reply(alloc, "503 Service Unavailable", "closed"),
     }
 }
 
 /// The reply to `POST /drain`.
 pub fn drain_reply(alloc: Global) -> Result<Bytes, AllocError>
-    ensures { IfOk result (λ reply. reply ≡ ok_reply (codes "draining")) }
+    ensures { IfOk result (λ reply. reply ≡ text_reply (codes "200 OK") (codes "draining")) }
 {
-    ok_reply(alloc, b"draining")
+    text_reply(alloc, "200 OK", "draining")
 }
 
-#[tactic(auto, unfolding(crate::specs::Answer::ok_reply))]
-fn ok_reply(alloc: Global, word: &[u8]) -> Result<Bytes, AllocError>
-    ensures { IfOk result (λ reply. reply ≡ ok_reply word.now) }
+/// The reply to a drain that is asked for as a page, a form or a branch does.
+pub fn forbidden_reply(alloc: Global) -> Result<Bytes, AllocError>
+    ensures { IfOk result (λ reply. reply ≡ forbidden_reply) }
 {
-    let length = word.len();
-    let head = format!(in alloc;
-        "HTTP/1.1 200 OK\r\nContent-Type: text/plain; charset=utf-8\r\nContent-Length: {length}\r\nConnection: close\r\n\r\n"
-    )?;
-    let mut reply = Bytes::from_slice(alloc, head.as_bytes())?;
-    reply.extend_from_slice(word)?;
-    Ok(reply)
+    text_reply(
+        alloc,
+        "403 Forbidden",
+        "ask for it as curl -X POST does: without Origin, Connect-Protocol-Version and a form's Content-Type\n",
+    )
 }
 
-#[tactic(auto, unfolding(crate::specs::Answer::unavailable_reply))]
-fn unavailable_reply(alloc: Global, word: &[u8]) -> Result<Bytes, AllocError>
-    ensures { IfOk result (λ reply. reply ≡ unavailable_reply word.now) }
+/// The reply to a request that names another host (RFC 9110, section 15.5.20).
+pub fn misdirected_reply(alloc: Global) -> Result<Bytes, AllocError>
+    ensures { IfOk result (λ reply. reply ≡ misdirected_reply) }
 {
-    let length = word.len();
+    text_reply(
+        alloc,
+        "421 Misdirected Request",
+        "name this host by its number, as localhost or as --admin does; --ready takes any name\n",
+    )
+}
+
+/// A text, with that status and its phrase.
+#[tactic(auto, unfolding(crate::specs::Answer::text_reply))]
+fn text_reply(alloc: Global, status: &str, text: &str) -> Result<Bytes, AllocError>
+    ensures { IfOk result (λ reply. reply ≡ text_reply status.now text.now) }
+{
+    let length = text.len();
     let head = format!(in alloc;
-        "HTTP/1.1 503 Service Unavailable\r\nContent-Type: text/plain; charset=utf-8\r\nContent-Length: {length}\r\nConnection: close\r\n\r\n"
+        "HTTP/1.1 {status}\r\nContent-Type: text/plain; charset=utf-8\r\nContent-Length: {length}\r\nConnection: close\r\n\r\n"
     )?;
     let mut reply = Bytes::from_slice(alloc, head.as_bytes())?;
-    reply.extend_from_slice(word)?;
+    reply.extend_from_slice(text.as_bytes())?;
     Ok(reply)
 }
 

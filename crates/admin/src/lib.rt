@@ -6,6 +6,7 @@
 mod answer;
 mod asked;
 mod branch_counts;
+mod door;
 mod drain;
 mod labels;
 mod loop_counts;
@@ -14,10 +15,11 @@ mod names;
 mod totals;
 
 pub use answer::{
-    Readiness, drain_reply, metrics_reply, not_found_reply, only_get_reply, only_post_reply,
-    ready_reply, refusal_reply,
+    Readiness, drain_reply, forbidden_reply, metrics_reply, misdirected_reply, not_found_reply,
+    only_get_reply, only_post_reply, ready_reply, refusal_reply,
 };
 pub use asked::{Asked, take_in};
+pub use door::Door;
 pub use drain::{Drain, Stage};
 pub use loop_counts::LoopCounts;
 pub use metrics::{Figures, LoopFigures, metrics_text};

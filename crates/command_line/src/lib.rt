@@ -4,5 +4,5 @@
 mod task;
 mod words;
 
-pub use task::{Admin, Checked, CheckedFile, Log, Service, Task, task_of};
+pub use task::{Admin, Checked, CheckedFile, Log, OwnAddresses, Service, Task, task_of};
 pub use words::read_words;

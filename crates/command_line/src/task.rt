@@ -40,6 +40,16 @@ pub struct Checked {
     pub file: CheckedFile,
     /// Whether a file with warnings is refused too.
     pub strict: bool,
+    /// Where a gateway with these plans is to listen.
+    pub own: OwnAddresses,
+}
+
+/// The addresses at which a gateway is to listen, as they were given: each a host and a port, so far as they are said.
+#[derive(Drop, PartialEq, Eq, Debug)]
+pub struct OwnAddresses {
+    pub listen: Option<Text>,
+    pub admin: Option<Text>,
+    pub ready: Option<Text>,
 }
 
 /// A file that is to be checked, by its path as it was given.
@@ -49,6 +59,13 @@ pub enum CheckedFile {
     Plans(Text),
     /// As a script.
     Script(Text),
+}
+
+impl OwnAddresses {
+    /// Whether none is said.
+    fn is_silent(&self) -> bool {
+        self.listen.is_none() && self.admin.is_none() && self.ready.is_none()
+    }
 }
 
 /// How clients are to be served.
@@ -66,6 +83,8 @@ pub struct Service {
     pub log: Log,
     /// The address for operators, if there is to be one.
     pub admin: Option<Admin>,
+    /// The address for those who watch alone, as it was given, if there is to be one.
+    pub ready: Option<Text>,
 }
 
 /// What is told on standard error.
@@ -124,14 +143,18 @@ fn serve_command<'a>(alloc: Global) -> Result<Command<'a>, AllocError> {
         .arg(log_option(alloc))?
         .arg(option(alloc, "admin"))?
         .arg(number(alloc, "drain-after"))?
-        .arg(number(alloc, "grace"))
+        .arg(number(alloc, "grace"))?
+        .arg(option(alloc, "ready"))
 }
 
 fn check_command<'a>(alloc: Global) -> Result<Command<'a>, AllocError> {
     Command::new(alloc, "check")
         .arg(option(alloc, "plans"))?
         .arg(option(alloc, "script"))?
-        .arg(option(alloc, "strict").action(ArgAction::SetTrue))
+        .arg(option(alloc, "strict").action(ArgAction::SetTrue))?
+        .arg(option(alloc, "listen"))?
+        .arg(option(alloc, "admin"))?
+        .arg(option(alloc, "ready"))
 }
 
 /// An option of that name.
@@ -183,6 +206,7 @@ fn service_of(alloc: Global, options: &ArgMatches<'_>) -> Result<Task, Fault>
         connections,
         log: log_of(options)?,
         admin: admin_of(alloc, options)?,
+        ready: text_at(alloc, options, "ready")?,
     }))
 }
 
@@ -230,26 +254,45 @@ fn seconds_of(options: &ArgMatches<'_>, name: &str) -> Result<Option<u64>, Fault
     }
 }
 
-/// One of the two files is named, and not both.
+/// One of the two files is named, and not both. Beside a plan file may be said where a gateway is to listen.
 fn checked_of(alloc: Global, options: &ArgMatches<'_>) -> Result<Task, Fault>
     ensures faults { IfErr result IsOfWords }
     ensures in_range { IfOk result IsInRange }
 {
+    let own = OwnAddresses {
+        listen: text_at(alloc, options, "listen")?,
+        admin: text_at(alloc, options, "admin")?,
+        ready: text_at(alloc, options, "ready")?,
+    };
     let file = match (options.get_str("plans"), options.get_str("script")) {
         (Some(plans), None) => CheckedFile::Plans(Text::from_str(alloc, plans)?),
-        (None, Some(script)) => CheckedFile::Script(Text::from_str(alloc, script)?),
+        (None, Some(script)) if own.is_silent() => {
+            CheckedFile::Script(Text::from_str(alloc, script)?)
+        }
         _ => return Err(Fault::Words),
     };
     let strict = options.get_flag("strict");
-    Ok(Task::Check(Checked { file, strict }))
+    Ok(Task::Check(Checked { file, strict, own }))
 }
 
-/// The value of an option.
+/// The value of an option, if it is given.
+fn text_at(
+    alloc: Global,
+    options: &ArgMatches<'_>,
+    name: &str,
+) -> Result<Option<Text>, AllocError> {
+    match options.get_str(name) {
+        Some(text) => Ok(Some(Text::from_str(alloc, text)?)),
+        None => Ok(None),
+    }
+}
+
+/// The value of an option that has to be given.
 fn text_of(alloc: Global, options: &ArgMatches<'_>, name: &str) -> Result<Text, Fault>
     ensures { IfErr result IsOfWords }
 {
-    let Some(text) = options.get_str(name) else {
-        return Err(Fault::Words);
-    };
-    Ok(Text::from_str(alloc, text)?)
+    match text_at(alloc, options, name)? {
+        Some(text) => Ok(text),
+        None => Err(Fault::Words),
+    }
 }

@@ -1,50 +1,49 @@
 ghost use Rattle.std.specs.Prelude.{⊤};
 
 use crate::dealer::sooner;
+use crate::entrance::{Entrance, VISITORS};
 use crate::loop_side::LoopSide;
-use crate::visitor::{Seen, Visitor};
+use crate::visitor::Seen;
 use admin::{
-    Asked, BranchTotals, Drain, Figures, LoopFigures, PlanTotals, Readiness, ServedNames,
-    drain_reply, metrics_reply, metrics_text, not_found_reply, only_get_reply, only_post_reply,
-    ready_reply, refusal_reply,
+    Asked, BranchTotals, Door, Drain, Figures, LoopFigures, PlanTotals, Readiness, ServedNames,
+    drain_reply, forbidden_reply, metrics_reply, metrics_text, misdirected_reply, not_found_reply,
+    only_get_reply, only_post_reply, ready_reply, refusal_reply,
 };
-use http_pieces::Bytes;
-use mio::net::{TcpListener, TcpStream};
-use mio::{Events, Interest, Poll, Token};
+use http_pieces::{Bytes, Text};
+use mio::net::TcpListener;
+use mio::{Events, Poll};
 use std::alloc::{AllocError, Global};
-use std::io::{self, ErrorKind};
+use std::io;
 use std::marker::Model;
 use std::sync::atomic::{AtomicU64, Ordering};
 use std::sync::{Arc, Wait};
 
-/// So many visitors are served at once; further ones are closed.
-const VISITORS: usize = 16;
+/// The text of the figures is told for so many milliseconds before it is made anew.
+const FRESH: u64 = 1_000;
 
-/// A visitor has to go after so many milliseconds.
-const VISIT: u64 = 2_000;
-
-/// So many visitors are let in at a time.
-const MOST_ACCEPTS: u32 = 64;
-
-/// An accept that failed is tried again after so many milliseconds.
-const PAUSE: u64 = 10;
-
-/// The token of its listener; those of its visitors follow.
+/// The token of the first entrance; those of its visitors, and then the other's, follow.
 const DOOR: usize = 2;
 
 /// Where operators ask: it tells figures and whether streams are accepted, and begins a drain.
 #[derive(Drop)]
 pub(crate) struct AdminDoor {
     alloc: Global,
-    listener: TcpListener,
-    visitors: Vec<Option<Visitor>>,
-    // the moment at which it is looked who else waits, if somebody may: a wait tells of each only once
-    again: Option<u64>,
+    // that of `--admin` and that of `--ready`, if there are such
+    entrances: Vec<Entrance>,
     /// How far the drain is that is asked for here.
     pub(crate) drain: Drain,
     names: Arc<ServedNames>,
     // how many lines of the log were left out
     dropped: Arc<AtomicU64>,
+    // the figures that were told last
+    made: Option<Made>,
+}
+
+/// The text of the figures, and the moment at which it was made.
+#[derive(Drop)]
+struct Made {
+    moment: u64,
+    text: Bytes,
 }
 
 // Clauses see nothing of it, which keeps proofs small.
@@ -55,29 +54,42 @@ impl Model for AdminDoor {
 }
 
 impl AdminDoor {
-    /// A door at which nobody stands, by whose drain streams are accepted and calls go on for so many milliseconds.
+    /// A door with no entrance yet, by whose drain streams are accepted and calls go on for so many milliseconds.
     pub(crate) fn new(
         alloc: Global,
-        listener: TcpListener,
         drain: Drain,
         names: Arc<ServedNames>,
         dropped: Arc<AtomicU64>,
-    ) -> Result<AdminDoor, AllocError> {
-        Ok(AdminDoor {
+    ) -> AdminDoor {
+        AdminDoor {
             alloc,
-            visitors: places(alloc)?,
-            listener,
-            again: None,
+            entrances: Vec::new(alloc),
             drain,
             names,
             dropped,
-        })
+            made: None,
+        }
     }
 
-    /// Has its listener waited for.
+    /// One more entrance, for operators by the address that was given, or for those who watch.
+    pub(crate) fn add(
+        &mut self,
+        listener: TcpListener,
+        operators: Option<Text>,
+    ) -> Result<(), AllocError> {
+        let tokens = self.entrances.len().saturating_mul(VISITORS + 1);
+        let first = tokens.saturating_add(DOOR);
+        let entrance = Entrance::new(self.alloc, listener, operators, first)?;
+        self.entrances.push(entrance)?;
+        Ok(())
+    }
+
+    /// Has its listeners waited for.
     pub(crate) fn watch(&mut self, poll: &Poll) -> io::Result<()> {
-        poll.registry()
-            .register(&mut self.listener, Token(DOOR), Interest::READABLE)
+        for entrance in self.entrances.iter_mut() {
+            entrance.watch(poll)?;
+        }
+        Ok(())
     }
 
     /// Serves those that a wait told of, at that moment, and lets go of those whose time is over. `readiness` is that
@@ -91,90 +103,63 @@ impl AdminDoor {
         now: &Now,
     ) {
         for event in events {
-            let token = event.token().0;
-            if token == DOOR {
-                self.again = Some(now.moment);
-            } else if token > DOOR {
-                self.serve(rt, sides, now, token - DOOR - 1);
-            }
+            self.serve_token(rt, sides, now, event.token().0);
         }
-        if self.again.is_some_and(|again| again <= now.moment) {
-            self.let_in(poll, now.moment);
+        for entrance in self.entrances.iter_mut() {
+            entrance.attend(poll, now.moment);
         }
-        self.expire(now.moment);
     }
 
     /// How long it may be waited for at most, from that moment on.
     pub(crate) fn time_left(&self, moment: u64) -> Option<u64> {
-        let mut next = self.again;
-        for visitor in self.visitors.iter() {
-            if let Some(visitor) = visitor {
-                next = sooner(next, Some(visitor.until));
-            }
-        }
+        let next = self.entrances.iter().filter_map(Entrance::next).min();
         let left = next.map(|next| next.saturating_sub(moment));
         sooner(self.drain.time_left(moment), left)
     }
 
-    /// Accepts who waits. Where somebody may be left, it is looked again.
-    fn let_in(&mut self, poll: &Poll, moment: u64) {
-        for _accept in 0..MOST_ACCEPTS {
-            match self.listener.accept() {
-                Ok((stream, _peer)) => self.seat(poll, stream, moment),
-                Err(error) if error.kind() == ErrorKind::WouldBlock => {
-                    self.again = None;
-                    return;
-                }
-                Err(_) => {
-                    self.again = Some(moment.saturating_add(PAUSE));
-                    return;
-                }
-            }
-        }
-        self.again = Some(moment);
-    }
-
-    /// Gives the stream a place. Where there is none it is closed.
-    fn seat(&mut self, poll: &Poll, stream: TcpStream, moment: u64) {
-        let Some(place) = self.visitors.iter().position(|visitor| visitor.is_none()) else {
-            return;
-        };
-        let mut visitor = Visitor::new(self.alloc, stream, moment.saturating_add(VISIT));
-        let token = Token(DOOR.saturating_add(1).saturating_add(place));
-        let interests = Interest::READABLE | Interest::WRITABLE;
-        let is_watched = poll
-            .registry()
-            .register(visitor.stream(), token, interests)
-            .is_ok();
-        if let Some(free) = self.visitors.get_mut(place) {
-            if is_watched {
-                *free = Some(visitor);
+    /// Serves whom the token names.
+    fn serve_token<R: Wait>(&mut self, rt: &R, sides: &[Arc<LoopSide>], now: &Now, token: usize) {
+        for index in 0..self.entrances.len() {
+            let Some(entrance) = self.entrances.get_mut(index) else {
+                return;
+            };
+            if entrance.is_listener(token) {
+                entrance.knock(now.moment);
+            } else if let Some(place) = entrance.place_of(token) {
+                self.serve(rt, sides, now, index, place);
             }
         }
     }
 
-    fn serve<R: Wait>(&mut self, rt: &R, sides: &[Arc<LoopSide>], now: &Now, place: usize) {
-        let Some(mut visitor) = self.take(place) else {
+    /// Serves the visitor in that place of that entrance.
+    fn serve<R: Wait>(
+        &mut self,
+        rt: &R,
+        sides: &[Arc<LoopSide>],
+        now: &Now,
+        index: usize,
+        place: usize,
+    ) {
+        let Some(entrance) = self.entrances.get_mut(index) else {
             return;
         };
-        let mut seen = visitor.hear();
+        let Some(mut visitor) = entrance.take(place) else {
+            return;
+        };
+        let mut seen = visitor.hear(entrance.door(), now.moment);
         if let Seen::Asks(asked) = seen {
             let Ok(bytes) = self.answer(rt, sides, now, asked) else {
                 return;
             };
             visitor.answer(bytes);
-            seen = visitor.hear();
+            // what comes behind it is dropped
+            seen = visitor.hear(Door::Watchers, now.moment);
         }
         if seen == Seen::Stays && visitor.tell() == Seen::Stays {
-            if let Some(kept) = self.visitors.get_mut(place) {
-                *kept = Some(visitor);
+            if let Some(entrance) = self.entrances.get_mut(index) {
+                entrance.put_back(place, visitor);
             }
         }
-    }
-
-    /// Takes the visitor out of its place.
-    fn take(&mut self, place: usize) -> Option<Visitor> {
-        self.visitors.get_mut(place)?.take()
     }
 
     fn answer<R: Wait>(
@@ -185,12 +170,14 @@ impl AdminDoor {
         asked: Asked,
     ) -> Result<Bytes, AllocError> {
         match asked {
-            Asked::Metrics => metrics_reply(self.alloc, &self.metrics(rt, sides, now)?),
+            Asked::Metrics => self.metrics(rt, sides, now),
             Asked::Ready => ready_reply(self.alloc, now.readiness),
             Asked::Drain => {
                 self.drain.begin(now.moment);
                 drain_reply(self.alloc)
             }
+            Asked::Forbidden => forbidden_reply(self.alloc),
+            Asked::Misdirected => misdirected_reply(self.alloc),
             Asked::OnlyGet => only_get_reply(self.alloc),
             Asked::OnlyPost => only_post_reply(self.alloc),
             Asked::NotFound => not_found_reply(self.alloc),
@@ -198,8 +185,33 @@ impl AdminDoor {
         }
     }
 
-    /// The figures of all loops.
+    /// The figures of all loops: those that were told last, while they are fresh.
     fn metrics<R: Wait>(
+        &mut self,
+        rt: &R,
+        sides: &[Arc<LoopSide>],
+        now: &Now,
+    ) -> Result<Bytes, AllocError> {
+        let made = match self.take_fresh(now.moment) {
+            Some(made) => made,
+            None => Made {
+                moment: now.moment,
+                text: self.figures(rt, sides, now)?,
+            },
+        };
+        let reply = metrics_reply(self.alloc, &made.text);
+        self.made = Some(made);
+        reply
+    }
+
+    /// Takes the figures that were told last, if they are fresh at that moment.
+    fn take_fresh(&mut self, moment: u64) -> Option<Made> {
+        let made = self.made.take()?;
+        (moment < made.moment.saturating_add(FRESH)).then_some(made)
+    }
+
+    /// The text of the figures of all loops.
+    fn figures<R: Wait>(
         &self,
         rt: &R,
         sides: &[Arc<LoopSide>],
@@ -243,26 +255,6 @@ impl AdminDoor {
         }
         Ok((totals, asked))
     }
-
-    /// Lets go of visitors whose time is over.
-    fn expire(&mut self, moment: u64) {
-        for place in 0..self.visitors.len() {
-            if let Some(Some(visitor)) = self.visitors.get(place) {
-                if visitor.until <= moment {
-                    let _gone = self.take(place);
-                }
-            }
-        }
-    }
-}
-
-/// Places for visitors, all of them free.
-fn places(alloc: Global) -> Result<Vec<Option<Visitor>>, AllocError> {
-    let mut visitors = Vec::with_capacity(alloc, VISITORS)?;
-    for _visitor in 0..VISITORS {
-        visitors.push(None)?;
-    }
-    Ok(visitors)
 }
 
 /// What is told of the present.

@@ -38,7 +38,7 @@ const LISTENER: Token = Token(0);
 const WAKER: Token = Token(1);
 
 /// As many sockets may be told of at once as there may be.
-const EVENTS: usize = 32;
+const EVENTS: usize = 64;
 
 /// Accepts streams and deals them to the loops, and attends to the address for operators, if there is one.
 #[derive(Drop)]
@@ -100,6 +100,11 @@ impl<M: Host + Net> Dealer<M> {
             unserved: 0,
             stage: Stage::Serves,
         })
+    }
+
+    /// Whether there is an address at which operators ask.
+    pub(crate) fn is_asked(&self) -> bool {
+        self.admin.is_some()
     }
 
     /// Listens no more, and deals no more.

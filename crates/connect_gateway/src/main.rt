@@ -5,6 +5,7 @@
 
 mod admin_door;
 mod dealer;
+mod entrance;
 mod host;
 mod log_writer;
 mod loop_log;
@@ -26,7 +27,7 @@ use std::process::ExitCode;
 use std::rt::Env;
 
 /// As CHANGELOG.md has it.
-const VERSION: &str = "connect_gateway 0.2.0\n";
+const VERSION: &str = "connect_gateway 0.3.0\n";
 
 fn main(rt: HostRuntime) -> ExitCode {
     match run_words(rt) {

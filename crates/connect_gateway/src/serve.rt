@@ -8,8 +8,9 @@ use crate::looping::{Common, Looping};
 use crate::start_log::StartLog;
 use admin::{Drain, ServedNames};
 use call_plan::Plans;
-use command_line::{Admin, Log, Service};
+use command_line::{Log, Service};
 use crossbeam_channel::{Receiver, unbounded};
+use http_pieces::Text;
 use input_files::PlanFile;
 use libc::types::rlimit;
 use libc::{RLIMIT_NOFILE, getrlimit};
@@ -51,7 +52,7 @@ pub(crate) fn serve<M: NetHost + AllocGlobal + Files>(
     let _error = hold(&rt);
     let alloc = rt.alloc();
     let log = StartLog::new(rt, alloc, service.log != Log::Off);
-    let file = read_plan_file(&rt, alloc, &log, service.plans.as_str())?;
+    let file = read_plan_file(&rt, alloc, &log, service)?;
     let plans = ServedPlans::of(alloc, &file, service.workers)?;
     drop(file);
     warn_of_descriptors(alloc, &log, service.workers);
@@ -74,7 +75,7 @@ fn serve_plans<M: NetHost>(
         clock,
         looked_up: resolver(rt, alloc, plans.looks_up)?,
         lines: (service.log != Log::Off).then_some(lines),
-        names: service.admin.is_some().then_some(plans.names),
+        names: dealer.is_asked().then_some(plans.names),
         main: Arc::try_clone(&dealer.waker)?,
     };
     log.listens(service, plans.count);
@@ -126,9 +127,7 @@ fn dealer<M: NetHost>(
     lines: &LogLines,
 ) -> Result<Dealer<M>, Fault> {
     let listener = listen(&rt, log, service.listen.as_str())?;
-    let admin = service.admin.as_ref();
-    let door = admin.map(|admin| open_door(&rt, log, alloc, admin, names, lines));
-    let door = door.transpose()?;
+    let door = open_door(&rt, alloc, log, service, names, lines)?;
     let told = (service.log != Log::Off).then(|| lines.try_clone());
     Dealer::new(rt, alloc, clock, listener, door, told.transpose()?)
 }
@@ -162,18 +161,32 @@ fn read_plan_file<M: Host + Files>(
     rt: &M,
     alloc: Global,
     log: &StartLog<M>,
-    path: &str,
+    service: &Service,
 ) -> Result<PlanFile, Fault> {
+    let path = service.plans.as_str();
     let mut opened = File::open(rt, path).map_err(|error| log.failed(path, error))?;
     match PlanFile::read(alloc, &mut opened) {
         Ok(file) => {
-            log.report(path, &file);
+            log.report(path, &file, own_addresses(alloc, service)?.as_slice());
             Ok(file)
         }
         Err(Fault::Plans) => Err(log.refused(path, "longer than 16777216 bytes", Fault::Plans)),
         Err(Fault::Io) => Err(log.refused(path, "it can't be read", Fault::Io)),
         Err(fault) => Err(fault),
     }
+}
+
+/// The addresses at which the gateway listens, as they were given.
+fn own_addresses(alloc: Global, service: &Service) -> Result<Vec<&str>, AllocError> {
+    let mut own = Vec::new(alloc);
+    own.push(service.listen.as_str())?;
+    if let Some(admin) = &service.admin {
+        own.push(admin.address.as_str())?;
+    }
+    if let Some(ready) = &service.ready {
+        own.push(ready.as_str())?;
+    }
+    Ok(own)
 }
 
 /// Listens at the first of the address' numbers at which it can.
@@ -193,23 +206,42 @@ fn listen<M: Host + Net>(
     Err(failed(refused))
 }
 
-/// The door at the address for operators.
+/// The door at the addresses for operators, if there are any.
 fn open_door<M: Host + Net>(
     rt: &M,
-    log: &StartLog<M>,
     alloc: Global,
-    admin: &Admin,
+    log: &StartLog<M>,
+    service: &Service,
     names: &Arc<ServedNames>,
     lines: &LogLines,
-) -> Result<AdminDoor, Fault> {
-    let listener = listen(rt, log, admin.address.as_str())?;
-    let drain = Drain::new(
-        admin.drain_after.saturating_mul(SECOND),
-        admin.grace.saturating_mul(SECOND),
-    );
+) -> Result<Option<AdminDoor>, Fault> {
+    if service.admin.is_none() && service.ready.is_none() {
+        return Ok(None);
+    }
     let names = Arc::try_clone(names)?;
     let dropped = Arc::try_clone(&lines.dropped)?;
-    Ok(AdminDoor::new(alloc, listener, drain, names, dropped)?)
+    let mut door = AdminDoor::new(alloc, drain_of(service), names, dropped);
+    if let Some(admin) = &service.admin {
+        let listener = listen(rt, log, admin.address.as_str())?;
+        let given = Text::from_str(alloc, admin.address.as_str())?;
+        door.add(listener, Some(given))?;
+    }
+    if let Some(ready) = &service.ready {
+        let listener = listen(rt, log, ready.as_str())?;
+        door.add(listener, None)?;
+    }
+    Ok(Some(door))
+}
+
+/// How a drain goes that is asked for. Without `--admin` nobody can.
+fn drain_of(service: &Service) -> Drain {
+    match &service.admin {
+        Some(admin) => Drain::new(
+            admin.drain_after.saturating_mul(SECOND),
+            admin.grace.saturating_mul(SECOND),
+        ),
+        None => Drain::new(0, 0),
+    }
 }
 
 /// Serves so many streams by a loop for each of these plans, and ends all threads that it started.

@@ -44,12 +44,13 @@ impl<M: Clock + Eprint> StartLog<M> {
         fault
     }
 
-    /// Tells what `check` says of the plan file beside that it is fine: its warnings, and why it is refused.
-    pub(crate) fn report(&self, path: &str, file: &PlanFile) {
+    /// Tells what `check` says of the plan file beside that it is fine: its warnings, and why it is refused. The gateway
+    /// listens at these addresses.
+    pub(crate) fn report(&self, path: &str, file: &PlanFile, own: &[&str]) {
         if !self.speaks {
             return;
         }
-        if let Ok(report) = file.report(self.alloc, path) {
+        if let Ok(report) = file.report(self.alloc, path, own) {
             for line in report.as_str().lines() {
                 if let Some(text) = line.strip_prefix("refused: ") {
                     self.tell(Remark::Fault, text);

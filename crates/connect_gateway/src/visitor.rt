@@ -1,6 +1,6 @@
 ghost use Rattle.std.specs.Prelude.{⊤};
 
-use admin::{Asked, take_in};
+use admin::{Asked, Door, take_in};
 use http_pieces::{Bytes, Reader};
 use mio::net::TcpStream;
 use std::alloc::Global;
@@ -24,6 +24,8 @@ pub(crate) struct Visitor {
     has_asked: bool,
     has_ended: bool,
     is_shut: bool,
+    // the moment at which something came of it last
+    heard: u64,
     // the moment at which it has to go
     pub(crate) until: u64,
 }
@@ -47,8 +49,8 @@ pub(crate) enum Seen {
 }
 
 impl Visitor {
-    /// One that has to go at that moment.
-    pub(crate) fn new(alloc: Global, stream: TcpStream, until: u64) -> Visitor {
+    /// One that came at that moment, and has to go at the other.
+    pub(crate) fn new(alloc: Global, stream: TcpStream, moment: u64, until: u64) -> Visitor {
         Visitor {
             stream,
             reader: Reader::new(alloc),
@@ -56,6 +58,7 @@ impl Visitor {
             has_asked: false,
             has_ended: false,
             is_shut: false,
+            heard: moment,
             until,
         }
     }
@@ -65,14 +68,19 @@ impl Visitor {
         &mut self.stream
     }
 
+    /// Since when nothing came of it, if it has not asked yet.
+    pub(crate) fn silent_since(&self) -> Option<u64> {
+        (!self.has_asked).then_some(self.heard)
+    }
+
     /// These bytes are its answer.
     pub(crate) fn answer(&mut self, bytes: Bytes) {
         self.outbox = Outbox::of(bytes);
     }
 
-    /// Reads what is there, until it asks for something. What comes behind that is dropped, so that its answer is not
-    /// lost with it.
-    pub(crate) fn hear(&mut self) -> Seen {
+    /// Reads what is there at that moment, until it asks for something at that door. What comes behind that is dropped,
+    /// so that its answer is not lost with it.
+    pub(crate) fn hear(&mut self, door: Door<'_>, moment: u64) -> Seen {
         for _read in 0..MOST_READS {
             let mut piece = [0u8; PIECE];
             match self.stream.read(&mut piece) {
@@ -85,7 +93,8 @@ impl Visitor {
                     };
                 }
                 Ok(count) => {
-                    if let Some(seen) = self.take_in(&piece[..count]) {
+                    self.heard = moment;
+                    if let Some(seen) = self.take_in(&piece[..count], door) {
                         return seen;
                     }
                 }
@@ -99,11 +108,11 @@ impl Visitor {
         Seen::Stays
     }
 
-    fn take_in(&mut self, piece: &[u8]) -> Option<Seen> {
+    fn take_in(&mut self, piece: &[u8], door: Door<'_>) -> Option<Seen> {
         if self.has_asked {
             return None;
         }
-        match take_in(&mut self.reader, piece) {
+        match take_in(&mut self.reader, piece, door) {
             Ok(Some(asked)) => {
                 self.has_asked = true;
                 Some(Seen::Asks(asked))

@@ -56,6 +56,7 @@ pub(crate) enum Complaint {
     AddressWithSlashes,
     NoHost,
     NoSuchPort,
+    OwnAddress,
     LimitAboveBranches,
     LateTimeout,
     BareLf,
@@ -141,6 +142,7 @@ impl Complaint {
             Complaint::AddressWithSlashes => "a host and a port alone, with no scheme and no //",
             Complaint::NoHost => "there is no host before the :",
             Complaint::NoSuchPort => "there are ports from 1 to 65535",
+            Complaint::OwnAddress => "here the gateway itself listens",
             Complaint::LimitAboveBranches => "more than the plan has branches",
             Complaint::LateTimeout =>
                 "not below that of the plan, so the call always expires first",

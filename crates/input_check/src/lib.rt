@@ -10,6 +10,7 @@ mod finding;
 mod form;
 mod json_fault;
 mod lines;
+mod own_address;
 mod plan_fault;
 mod plan_warnings;
 mod report;

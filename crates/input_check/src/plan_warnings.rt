@@ -1,6 +1,7 @@
 //! What the gateway takes of a plan and what will not work as it seems to be meant.
 use crate::complaint::Complaint;
 use crate::finding::{Finding, Place};
+use crate::own_address::is_own;
 use crate::plan_fault::{MOST_PLANS, branches_of, is_branch_timeout, text_of};
 use crate::spelling::meant_key;
 use crate::structure::repeated_key;
@@ -26,11 +27,18 @@ const FILE_KEYS: [&str; 8] = [
 
 const MOST_PORT: u64 = 65_535;
 
-/// Adds the warnings of an array of plans, of as many as a file may have.
-pub(crate) fn push_plan_warnings(alloc: Global, warnings: &mut Warnings<'_>, plans: &[Value]) {
+/// Adds the warnings of an array of plans, of as many as a file may have, for a gateway that listens at these
+/// addresses.
+pub(crate) fn push_plan_warnings(
+    alloc: Global,
+    warnings: &mut Warnings<'_>,
+    plans: &[Value],
+    own: &[&str],
+) {
     for (k, plan) in plans.iter().take(MOST_PLANS).enumerate() {
         if plan.is_object() {
-            push_warnings_of_plan(alloc, warnings, Place::Plan(k + 1, plan.get("path")), plan);
+            let place = Place::Plan(k + 1, plan.get("path"));
+            push_warnings_of_plan(alloc, warnings, place, plan, own);
         }
     }
 }
@@ -40,6 +48,7 @@ fn push_warnings_of_plan<'v>(
     warnings: &mut Warnings<'_>,
     place: Place<'v>,
     plan: &'v Value,
+    own: &[&str],
 ) {
     push_key_warnings(alloc, warnings, place, plan, &PLAN_KEYS);
     push_path_warning(warnings, place, plan);
@@ -57,7 +66,7 @@ fn push_warnings_of_plan<'v>(
     for (k, branch) in branches.iter().enumerate() {
         let place = place.branch(k + 1);
         push_key_warnings(alloc, warnings, place, branch, &BRANCH_KEYS);
-        push_address_warnings(warnings, place, branch);
+        push_address_warnings(warnings, place, branch, own);
         push_branch_timeout_warning(warnings, place, plan.get("timeout_ms"), branch);
     }
 }
@@ -105,7 +114,12 @@ fn is_above(limit: Option<&Value>, branches: usize) -> bool {
             .is_some_and(|limit| limit > branches as u64)
 }
 
-fn push_address_warnings<'v>(warnings: &mut Warnings<'_>, place: Place<'v>, branch: &'v Value) {
+fn push_address_warnings<'v>(
+    warnings: &mut Warnings<'_>,
+    place: Place<'v>,
+    branch: &'v Value,
+    own: &[&str],
+) {
     let address = text_of(branch, "address");
     for (is_so, complaint) in [
         (address.contains("//"), Complaint::AddressWithSlashes),
@@ -113,6 +127,10 @@ fn push_address_warnings<'v>(warnings: &mut Warnings<'_>, place: Place<'v>, bran
         (address.contains(','), Complaint::SeveralAddresses),
         (address.starts_with(':'), Complaint::NoHost),
         (has_no_port(address), Complaint::NoSuchPort),
+        (
+            own.iter().any(|own| is_own(address, own)),
+            Complaint::OwnAddress,
+        ),
     ] {
         if is_so {
             let found = Finding::of(place, "address", branch.get("address"), complaint);

@@ -41,15 +41,21 @@ pub struct ScriptReport {
     pub text: String,
 }
 
-/// The report on the text of the plan file of that name, which stands in each of its findings; it may be empty.
-pub fn plan_report(alloc: Global, name: &str, text: &[u8]) -> Result<PlanReport, AllocError>
+/// The report on the text of the plan file of that name, which stands in each of its findings; it may be empty. A
+/// branch that leads to one of these addresses of the gateway itself is warned of.
+pub fn plan_report(
+    alloc: Global,
+    name: &str,
+    text: &[u8],
+    own: &[&str],
+) -> Result<PlanReport, AllocError>
     ensures fault { IfOk result (λ report. IsVerdict report.fault (plans_in text.now)) }
     ensures says { IfOk result (λ report. Says report.fault (string_bytes report.text)) }
     ensures warned { IfOk result (λ report. report.warned ≡ true → Warns (string_bytes report.text)) }
 {
     match read_plans(alloc, text) {
         Ok(plans) => {
-            let found = fine_plans(alloc, name, &plans, text)?;
+            let found = fine_plans(alloc, name, &plans, text, own)?;
             Ok(PlanReport {
                 fault: None,
                 warned: !found.warnings.is_empty(),
@@ -58,7 +64,7 @@ pub fn plan_report(alloc: Global, name: &str, text: &[u8]) -> Result<PlanReport,
         }
         Err(PlanError::Memory) => Err(AllocError),
         Err(fault) => {
-            let found = refused_plans(alloc, name, text)?;
+            let found = refused_plans(alloc, name, text, own)?;
             Ok(PlanReport {
                 fault: Some(fault),
                 warned: !found.warnings.is_empty(),
@@ -152,6 +158,7 @@ fn fine_plans<'n>(
     name: &'n str,
     plans: &Plans,
     text: &[u8],
+    own: &[&str],
 ) -> Result<Found<'n>, AllocError> {
     let read = read_value(alloc, text)?;
     let mut found = Found::new(alloc, name);
@@ -159,19 +166,24 @@ fn fine_plans<'n>(
     if let Ok(value) = read {
         push_served(&mut found.said, plans, elements_of(&value));
         push_repeated_key(alloc, &mut found.warnings, text);
-        push_plan_warnings(alloc, &mut found.warnings, elements_of(&value));
+        push_plan_warnings(alloc, &mut found.warnings, elements_of(&value), own);
     }
     Ok(found)
 }
 
-fn refused_plans<'n>(alloc: Global, name: &'n str, text: &[u8]) -> Result<Found<'n>, AllocError> {
+fn refused_plans<'n>(
+    alloc: Global,
+    name: &'n str,
+    text: &[u8],
+    own: &[&str],
+) -> Result<Found<'n>, AllocError> {
     let read = read_value(alloc, text)?;
     let mut found = Found::new(alloc, name);
     match read {
         Ok(value) => {
             push_fault(&mut found.said, plans_fault(&value));
             push_repeated_key(alloc, &mut found.warnings, text);
-            push_plan_warnings(alloc, &mut found.warnings, elements_of(&value));
+            push_plan_warnings(alloc, &mut found.warnings, elements_of(&value), own);
         }
         // the line of a text that is no JSON
         Err(error) => push_finding(&mut found.said, &json_fault(text, &error)),

@@ -13,7 +13,7 @@ const SCRIPT_KEYS: [&str; 2] = ["plans", "events"];
 /// Adds the warnings of a script.
 pub(crate) fn push_script_warnings(alloc: Global, warnings: &mut Warnings<'_>, script: &Value) {
     push_key_warnings(alloc, warnings, Place::File, script, &SCRIPT_KEYS);
-    push_plan_warnings(alloc, warnings, plans_of(script));
+    push_plan_warnings(alloc, warnings, plans_of(script), &[]);
     for (k, event) in events_of(script).iter().enumerate() {
         if has_bare_lf(event) {
             let found = Finding::at(Place::FormedEvent(k, Form::Piece), Complaint::BareLf);

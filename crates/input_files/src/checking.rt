@@ -5,10 +5,10 @@ ghost use Rattle.script_replay.specs.Input.{ReadsNoPlans, ReadsNoScript};
 ghost use Rattle.input_files.specs.Check.{FindsPlans, FindsScript, IsOfChecked};
 ghost use Rattle.input_files.specs.Check.{WritesApproval, WritesRefusal, WritesWarning};
 
-use command_line::{Checked, CheckedFile};
+use command_line::{Checked, CheckedFile, OwnAddresses};
 use input_check::{plan_report, script_report, too_long};
 use script_replay::{Fault, read_text};
-use std::alloc::Global;
+use std::alloc::{AllocError, Global};
 use std::fs::{File, Files};
 use std::io::{self, Read, Write};
 
@@ -22,8 +22,9 @@ pub fn check<R: Print + AllocGlobal + Files>(rt: &R, checked: &Checked) -> Resul
     let (warned, fault) = match &checked.file {
         CheckedFile::Plans(path) => {
             let mut file = File::open(rt, path.as_str())?;
+            let own = texts_of(alloc, &checked.own)?;
             (
-                check_plans(alloc, path.as_str(), &mut file, &mut writer)?,
+                check_plans(alloc, path.as_str(), own.as_slice(), &mut file, &mut writer)?,
                 Fault::Plans,
             )
         }
@@ -41,12 +42,24 @@ pub fn check<R: Print + AllocGlobal + Files>(rt: &R, checked: &Checked) -> Resul
     Ok(())
 }
 
-/// Reads the plan file of that name and writes what is to be said of it: that it is fine and what it serves, or why it
-/// is refused. `Plans` where it is refused, `Io` where a read or a write failed, `Memory` for want of memory. Answers
+/// The addresses that are said.
+fn texts_of(alloc: Global, own: &OwnAddresses) -> Result<Vec<&str>, AllocError> {
+    let mut texts = Vec::new(alloc);
+    for text in [&own.listen, &own.admin, &own.ready] {
+        if let Some(text) = text {
+            texts.push(text.as_str())?;
+        }
+    }
+    Ok(texts)
+}
+
+/// Reads the plan file of that name and writes what is to be said of it, for a gateway that listens at these addresses:
+/// that it is fine and what it serves, or why it is refused. `Plans` where it is refused, `Io` where a read or a write failed, `Memory` for want of memory. Answers
 /// whether it warned.
 pub fn check_plans<R: Read, W: Write>(
     alloc: Global,
     name: &str,
+    own: &[&str],
     reader: &mut R,
     writer: &mut W,
 ) -> Result<bool, Fault>
@@ -61,7 +74,7 @@ pub fn check_plans<R: Read, W: Write>(
         write_text(&too_long(alloc, name)?, writer)?;
         return Err(Fault::Plans);
     };
-    let report = plan_report(alloc, name, text.as_slice())?;
+    let report = plan_report(alloc, name, text.as_slice(), own)?;
     write_text(&report.text, writer)?;
     match report.fault {
         None => Ok(report.warned),

@@ -55,11 +55,11 @@ impl PlanFile {
         }
     }
 
-    /// What `connect_gateway check` says of it under that name.
-    pub fn report(&self, alloc: Global, name: &str) -> Result<String, AllocError>
+    /// What `connect_gateway check` says of it under that name, for a gateway that listens at these addresses.
+    pub fn report(&self, alloc: Global, name: &str, own: &[&str]) -> Result<String, AllocError>
         ensures says { IfOk result (λ text. Says (result_err (plans_in self.now)) (string_bytes text)) }
     {
-        Ok(plan_report(alloc, name, self.text.as_slice())?.text)
+        Ok(plan_report(alloc, name, self.text.as_slice(), own)?.text)
     }
 
     /// The paths of its plans, in their order.

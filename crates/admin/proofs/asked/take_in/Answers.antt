@@ -11,7 +11,7 @@ returns-in-Refused c bytes has =
 
 pub returns-in-Some : goal.returns-in-Some
 returns-in-Some c bytes has =
-    subst (λ asked. IsAskedBy bytes c.args.piece.now asked) (sym c.asked_of.ensures)
+    subst (λ asked. IsAskedBy c.args.door bytes c.args.piece.now asked) (sym c.asked_of.ensures)
     (ByRequest c.in_ok-push.field-0 c.in-Some.request
     (asked_by c.push.new.self (bytes ++ take c.in_ok-push.field-0 c.args.piece.now) c.in-Some.request (c.in_ok-push.ensures.reads bytes _ has)
     c.in-Some.ensures.gives))
