@@ -13,6 +13,8 @@
  *   lasting      an input or output fault, and so does each such call of the same thread from then on
  *   hasty        it does not wait, and tells of nothing (each other `wait`, whatever N)
  *
+ * Where the variable FAULT_WHEN names a file, calls are counted from when that is there.
+ *
  * As it fails, a byte is written to the descriptor that the variable FAULT_TOLD names, if it is set. Calls that libraries
  * make are left alone, so that N does not depend on them. It is for glibc alone. */
 #define _GNU_SOURCE
@@ -33,6 +35,7 @@ extern void *__libc_malloc(size_t size);
 extern void *__libc_realloc(void *old, size_t size);
 
 static char call[16], how[16];
+static const char *when;
 static long countdown = -1;
 static int told = -1;
 static char *code_start, *code_end;
@@ -53,6 +56,7 @@ static int note_program(struct dl_phdr_info *info, size_t size, void *data) {
 
 __attribute__((constructor)) static void begin(void) {
     const char *fault = getenv("FAULT"), *descriptor = getenv("FAULT_TOLD");
+    when = getenv("FAULT_WHEN");
     dl_iterate_phdr(note_program, NULL);
     told = descriptor ? atoi(descriptor) : -1;
     if (fault && sscanf(fault, "%15s %ld %15s", call, &countdown, how) != 3) {
@@ -62,11 +66,17 @@ __attribute__((constructor)) static void begin(void) {
 
 /* Whether it is this call that fails. */
 static int fails(const char *name, void *caller) {
-    if (countdown < 0 || (char *)caller < code_start || code_end <= (char *)caller || strcmp(name, call) != 0) {
+    if ((char *)caller < code_start || code_end <= (char *)caller || strcmp(name, call) != 0) {
         return 0;
     }
     if (lasts) {
         return 1;
+    }
+    if (countdown < 0) {
+        return 0;
+    }
+    if (when && access(when, F_OK) != 0) {
+        return 0;
     }
     if (__atomic_sub_fetch(&countdown, 1, __ATOMIC_SEQ_CST) != 0) {
         return 0;

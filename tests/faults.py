@@ -5,6 +5,7 @@ fails, the first, the second and so on, until there are none so many."""
 import contextlib
 import json
 import os
+import select
 import signal
 import socket
 import subprocess
@@ -13,9 +14,11 @@ import tempfile
 import time
 
 import program
+import program_admin
+import program_places
 from program_room import (
-    DONE, IO, MEMORY, WAIT, Wrong, at_once, call, client, end_of, expect, free_ports, listener, plan, read_to, reply,
-    request, serve_words,
+    DONE, IO, MEMORY, WAIT, Wrong, answers, at_once, call, client, end_of, expect, free_ports, is_reset, listener, plan,
+    read_to, reply, request, serve_words, waits_of,
 )
 
 HERE = os.path.dirname(os.path.abspath(__file__))
@@ -345,6 +348,71 @@ def case_serve_no_sockets_to_wait_for(room):
     """serve: at the start each refused means to wait ends the program, and each refused watch too; later one concerns one stream"""
     starts_with(room, "waker")
     serve_each(room, "watch", "failed", judge_cut, starts_with(room, "watch"))
+
+
+def all_sleep(run):
+    """Whether no thread of a program has run for a while."""
+    before = waits_of(run)
+    time.sleep(0.2)
+    states = []
+    for thread in os.listdir(f"/proc/{run.pid}/task"):
+        with open(f"/proc/{run.pid}/task/{thread}/stat", encoding="ascii") as file:
+            states.append(file.read().rsplit(")", 1)[1].split()[0])
+    return set(states) == {"S"} and waits_of(run) == before
+
+
+@contextlib.contextmanager
+def dying(room, workers):
+    """A gateway of which a loop can't wait any more as soon as a client of it asks, and what begins that. It has an address
+    for operators. Yields its run, its port, that address, and what begins it."""
+    begun = f"{room.folder}/begun"
+    with listener() as silent:
+        env = {**variables("wait", 1, "lasting", 2), "FAULT_WHEN": begun}
+        made = plan([silent.getsockname()[1]], 1)
+        run, port, where = program_admin.serve(room, made, "--workers", str(workers), variables=env)
+
+        def begin(stream):
+            # the next wait is that of its loop
+            while not all_sleep(run):
+                pass
+            with open(begun, "wb"):
+                pass
+            call(stream)
+
+        yield run, port, where, begin
+
+
+def case_serve_places_of_a_dead_loop(room):
+    """serve: the places of a loop that has died are nobody's: who waits gets one of another loop"""
+    with dying(room, 2) as (_run, port, where, begin), contextlib.ExitStack() as opened:
+        holders = program_places.fill(opened, port, 128)
+        begin(holders[0])
+        expect("whether its stream ends", read_to(holders[0], 1).removesuffix(b" (reset)"), b"")
+        time.sleep(0.2)
+        ended = set(select.select(holders, [], [], 0)[0])
+        expect("how many were its", len(ended), 64)
+        others = [stream for stream in holders if stream not in ended]
+        waiting = program_places.ask_for_a_place(opened, port)
+        expect("while ten wait", program_admin.asks(where, "/ready"), (503, "full"))
+        program_places.give_up(others[0])
+        program_places.is_served("the oldest", waiting[0])
+        for stream in waiting[1:]:
+            is_reset("one that has waited for a second", stream)
+        answers("one of the other loop", others[1])
+
+
+def case_serve_places_of_the_last_loop(room):
+    """serve: who waits for a place as the last loop dies is turned away, and the program ends"""
+    with dying(room, 1) as (run, port, _where, begin), contextlib.ExitStack() as opened:
+        holders = program_places.fill(opened, port)
+        begin(holders[0])
+        # it tries to wait for three seconds
+        time.sleep(2.6)
+        for stream in program_places.ask_for_a_place(opened, port):
+            is_reset("one that waits", stream)
+        for stream in holders:
+            expect("one of the loop", read_to(stream, 1).removesuffix(b" (reset)"), b"")
+        expect("how it ends", end_of(run)[0][0], IO[0])
 
 
 def case_serve_loop_ends(room):

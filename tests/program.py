@@ -14,11 +14,14 @@ import program_admin
 import program_ends
 import program_log
 import program_loops
+import program_places
 import program_serve
 import program_waits
 from program_room import CASE_TIME, Room, Untried, Wrong
 
-MODULES = [program_admin, program_ends, program_serve, program_loops, program_waits, program_log]
+MODULES = [
+    program_admin, program_ends, program_serve, program_places, program_loops, program_waits, program_log,
+]
 
 
 def late(_signal, _frame):

@@ -15,7 +15,7 @@ import urllib.request
 
 from program_room import (
     Backend, DONE, IO, STRAY, Untried, WAIT, WORDS, Wrong, answers, at_once, call, client, closes, expect, free_port,
-    full_listener, is_quiet, is_refused, listener, plan, read_message, read_reply, read_to, reply, request, sees_end,
+    full_listener, is_quiet, is_refused, is_reset, listener, plan, read_message, read_reply, read_to, reply, request, sees_end,
 )
 
 DRAINING = '{"code":"unavailable","message":"gateway is draining"}'
@@ -263,7 +263,7 @@ def case_readiness(room):
         for stream in taken:
             answers("one of 64", stream)
         expect("with 64", asks(where, "/ready"), (503, "full"))
-        sees_end("a further one", opened.enter_context(client(port)))
+        is_reset("a further one", opened.enter_context(client(port)))
         found = figures(where)
         expect("the streams that were closed", found[("connect_gateway_streams_closed_total",)], 1)
         expect("the connections", found[("connect_gateway_open_connections", "0")], 64)

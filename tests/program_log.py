@@ -7,8 +7,8 @@ import threading
 import time
 
 from program_room import (
-    Backend, IO, NOT_FOUND, PLANS, STRAY, WAIT, answers, call, client, end_of, expect, free_port, listener, listens, plan,
-    read_message, read_reply, read_to, reply, sees_end, serve_words,
+    Backend, IO, NOT_FOUND, PLANS, STRAY, WAIT, answers, call, client, end_of, expect, free_port, is_reset, listener,
+    listens, plan, read_message, read_reply, read_to, reply, serve_words,
 )
 
 
@@ -187,7 +187,7 @@ def case_log_of_streams_closed(room):
         for _ in range(64):
             answers("one of 64", opened.enter_context(client(port)))
         for _ in range(3):
-            sees_end("a further one", opened.enter_context(client(port)))
+            is_reset("a further one", opened.enter_context(client(port)))
     found = []
     while len(found) < 3:
         found += [line["closed"] for line in [json.loads(run.stderr.readline())] if "closed" in line]
@@ -337,14 +337,14 @@ def case_log_of_the_start(room):
 def case_log_of_few_descriptors(room):
     """the log warns where fewer descriptors are allowed than the workers may need"""
     run, port = room.serve(b"[]", workers=2, streams=1, log=True,
-                           limit=lambda: resource.setrlimit(resource.RLIMIT_NOFILE, (2_359, 2_359)))
+                           limit=lambda: resource.setrlimit(resource.RLIMIT_NOFILE, (2_619, 2_619)))
     warned = [text for kind, text in remarks(listens(run.stderr)) if kind == "warning"]
     expect("what is told", warned, [
-        "descriptors: 2359 are allowed, and 2360 are always enough: ulimit -n, or LimitNOFILE in a unit"])
+        "descriptors: 2619 are allowed, and 2620 are always enough: ulimit -n, or LimitNOFILE in a unit"])
     client(port).close()
     expect("the status", (run.communicate(timeout=WAIT), run.returncode)[1], 0)
     run, port = room.serve(b"[]", workers=2, streams=1, log=True,
-                           limit=lambda: resource.setrlimit(resource.RLIMIT_NOFILE, (2_360, 2_360)))
+                           limit=lambda: resource.setrlimit(resource.RLIMIT_NOFILE, (2_620, 2_620)))
     expect("with enough", remarks(listens(run.stderr)), [("listen", f"127.0.0.1:{port}")])
     client(port).close()
     expect("the status", (run.communicate(timeout=WAIT), run.returncode)[1], 0)

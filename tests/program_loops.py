@@ -12,7 +12,7 @@ import time
 
 from program_room import (
     Backend, DONE, Echo, LONG_BODY, NOT_FOUND, STRAY, Trickle, Untried, WAIT, Wrong, answers, at_once, call, client,
-    expect, is_quiet, listener, listens, long_listener, mount, plan, read_message, read_reply, read_to, reply, request,
+    expect, is_quiet, is_reset, listener, listens, long_listener, mount, plan, read_message, read_reply, read_to, reply, request,
     sees_end, stop_now,
 )
 
@@ -318,7 +318,7 @@ def case_full_loops(room):
         for stream in streams:
             answers("one of 192", stream)
         with client(port) as one_more:
-            sees_end("the 193rd", one_more)
+            is_reset("the 193rd", one_more)
         streams[100].shutdown(socket.SHUT_WR)
         sees_end("one of 192", streams[100])
         answers("a stream in its place", opened.enter_context(client(port)))

@@ -214,6 +214,11 @@ def sees_end(what, stream):
     expect(what, read_to(stream, 1), b"")
 
 
+def is_reset(what, stream):
+    """Sees that a stream is closed without a byte, by a reset: at an end some clients would wait for ever."""
+    expect(what, read_to(stream, 1), b" (reset)")
+
+
 def answers(what, stream):
     """Sees that a request which needs no backend is answered on the stream."""
     stream.sendall(STRAY)

@@ -9,7 +9,7 @@ import time
 
 from program_room import (
     Backend, DONE, Echo, LONG_BODY, NOT_FOUND, STRAY, Trickle, WAIT, answers, at_once, call, client, closes, expect,
-    is_quiet, listener, plan, read_message, read_reply, read_to, reply, sees_end, size_of,
+    is_quiet, is_reset, listener, plan, read_message, read_reply, read_to, reply, sees_end, size_of,
 )
 
 
@@ -75,14 +75,17 @@ def case_streams(room):
 
 
 def case_full(room):
-    """a stream beside 64 open ones is closed without a byte, and one is served again when one has ended"""
+    """a stream beside 64 open ones is closed without a byte after a second, and one is served when one has ended"""
     run, port = room.serve(b"[]", streams=66)
     with contextlib.ExitStack() as opened:
         streams = [opened.enter_context(client(port)) for _ in range(64)]
         for stream in streams:
             answers("one of 64", stream)
+        began = time.monotonic()
         with client(port) as one_more:
-            sees_end("the 65th", one_more)
+            is_reset("the 65th", one_more)
+        took = time.monotonic() - began
+        expect(f"whether it could wait for a place, {took:.3f} seconds", took > 0.99, True)
         streams[7].shutdown(socket.SHUT_WR)
         sees_end("one of 64", streams[7])
         answers("a stream in its place", opened.enter_context(client(port)))
@@ -165,7 +168,7 @@ def hangs_up_among_64(room, plans, backend, body):
             asked = opened.enter_context(backend.accept()[0])
             read_message(asked)
             with client(port) as one_more:
-                sees_end("a 65th beside them", one_more)
+                is_reset("a 65th beside them", one_more)
         sees_end("the silent backend", asked)
         end = time.monotonic() + WAIT
         while True:

@@ -4,7 +4,9 @@ use crate::admin_door::{AdminDoor, Now};
 use crate::host::{Host, SinceStart};
 use crate::loop_log::LogLines;
 use crate::loop_side::{LoopSide, Mail};
-use crate::socket::{Seat, Socket};
+use crate::main_side::MainSide;
+use crate::socket::{Seat, Socket, turn_away};
+use crate::waiting::Waiting;
 use access_log::Unserved;
 use admin::{Readiness, Stage};
 use gateway_loop::Dealt;
@@ -48,10 +50,12 @@ pub(crate) struct Dealer<M> {
     clock: SinceStart,
     // none once nobody listens any more
     listener: Option<TcpListener>,
+    // streams that were accepted and not dealt yet
+    waiting: Waiting<TcpStream>,
     poll: Poll,
     events: Events,
-    /// What wakes main.
-    pub(crate) waker: Arc<Waker>,
+    /// What main shares with the loops.
+    pub(crate) main: Arc<MainSide>,
     /// What the loops share with main.
     pub(crate) sides: Vec<Arc<LoopSide>>,
     admin: Option<AdminDoor>,
@@ -91,8 +95,9 @@ impl<M: Host + Net> Dealer<M> {
             alloc,
             clock,
             listener: Some(listener),
+            waiting: Waiting::new(alloc)?,
             events: Events::with_capacity(alloc, EVENTS)?,
-            waker: Arc::new(alloc, waker)?,
+            main: Arc::new(alloc, MainSide::new(waker))?,
             poll,
             sides: Vec::new(alloc),
             admin,
@@ -107,9 +112,10 @@ impl<M: Host + Net> Dealer<M> {
         self.admin.is_some()
     }
 
-    /// Listens no more, and deals no more.
+    /// Listens no more, and deals no more. Who waits still for a place is turned away.
     pub(crate) fn close(&mut self) {
         drop(self.listener.take());
+        self.turn_away_late(u64::MAX);
         for side in &self.sides {
             side.close();
         }
@@ -138,23 +144,22 @@ impl<M: Host + Net> Dealer<M> {
     /// too long, and where no loop is left.
     pub(crate) fn deal_streams(&mut self, most: u64) -> Result<(), Fault> {
         let rt = self.rt;
-        let mut dealt: u64 = 0;
+        let mut accepted: u64 = 0;
         let mut tries: u32 = 0;
         for _ in rt.forever() {
-            if dealt >= most {
-                return Ok(());
+            self.deal_waiting();
+            if accepted >= most {
+                drop(self.listener.take());
             }
             if self.are_over() {
-                return Err(Fault::Io);
+                return self.listener.as_ref().map_or(Ok(()), |_| Err(Fault::Io));
             }
             match self.accept() {
                 Ok(Accepted::Stream(stream)) => {
-                    if let Err(why) = self.deal(stream) {
-                        self.tell_unserved(why);
-                    }
-                    dealt += 1;
+                    self.take_in(stream);
+                    accepted = accepted.saturating_add(1);
                     tries = 0;
-                    if dealt % MANY == 0 {
+                    if accepted % MANY == 0 {
                         self.look();
                     }
                 }
@@ -163,33 +168,108 @@ impl<M: Host + Net> Dealer<M> {
                 // in a drain nobody is waited for
                 Err(_) if self.stage == Stage::Closes => return Ok(()),
                 Err(_) if tries >= MOST_TRIES => return Err(Fault::Io),
-                Err(_) => {
-                    thread::sleep(&rt, Duration::from_millis(PAUSE));
-                    self.look();
-                    let is_asking = self.sides.iter().any(|side| side.standing(&rt).asking > 0);
-                    tries = tries.saturating_add(u32::from(!is_asking));
-                }
+                Err(_) => tries = tries.saturating_add(u32::from(!self.pause())),
             }
         }
         unreachable!()
     }
 
-    /// The next stream. Where none waits it is waited for one, for the end of a loop or for an operator, unless nobody
-    /// is to listen any more.
+    /// Pauses after an accept that failed, and attends to operators. Answers whether a backend is asked.
+    fn pause(&mut self) -> bool {
+        let rt = self.rt;
+        thread::sleep(&rt, Duration::from_millis(PAUSE));
+        self.look();
+        self.sides.iter().any(|side| side.standing(&rt).asking > 0)
+    }
+
+    /// The next stream. Where none comes it is waited for one, for a place if somebody waits for one, for the end of a
+    /// loop or for an operator, unless nobody is to listen any more and nobody waits.
     fn accept(&mut self) -> io::Result<Accepted> {
-        let Some(listener) = &self.listener else {
+        if let Some(stream) = self.next_stream()? {
+            return Ok(Accepted::Stream(stream));
+        }
+        let is_closed = self.listener.is_none() || self.stage == Stage::Closes;
+        if is_closed && self.waiting.is_empty() {
             return Ok(Accepted::NoMore);
+        }
+        self.wait_for_place()?;
+        Ok(Accepted::Nothing)
+    }
+
+    /// The next stream that waits at the listener, unless no more may wait for a place.
+    fn next_stream(&self) -> io::Result<Option<TcpStream>> {
+        let Some(listener) = &self.listener else {
+            return Ok(None);
         };
+        if self.waiting.is_full() {
+            return Ok(None);
+        }
         match listener.accept() {
-            Ok((stream, _peer)) => Ok(Accepted::Stream(stream)),
-            Err(error) if error.kind() == ErrorKind::WouldBlock => {
-                if self.stage == Stage::Closes {
-                    return Ok(Accepted::NoMore);
-                }
-                self.wait(None)?;
-                Ok(Accepted::Nothing)
-            }
+            Ok((stream, _peer)) => Ok(Some(stream)),
+            Err(error) if error.kind() == ErrorKind::WouldBlock => Ok(None),
             Err(error) => Err(error),
+        }
+    }
+
+    /// Waits without a limit; where somebody waits for a place, until there is one or he has waited for too long.
+    fn wait_for_place(&mut self) -> io::Result<()> {
+        let Some(until) = self.waiting.until() else {
+            return self.wait(None);
+        };
+        let moment = self.clock.now(&self.rt);
+        self.main.await_place(true);
+        // a place that was given back before that wakes nobody
+        let most = match self.emptiest() {
+            Some(_) => 0,
+            None => until.saturating_sub(moment),
+        };
+        let waited = self.wait(Some(most));
+        self.main.await_place(false);
+        waited
+    }
+
+    /// Takes in a stream that was accepted: it is dealt, behind those that wait, or waits too. Where there is no memory
+    /// for that it is closed.
+    fn take_in(&mut self, stream: TcpStream) {
+        let moment = self.clock.now(&self.rt);
+        if self.waiting.add(stream, moment).is_err() {
+            self.tell_unserved(Unserved::NoMemory);
+        }
+        self.deal_waiting();
+    }
+
+    /// Deals streams that wait to loops that have a place for them, the oldest first. Those that have waited for too
+    /// long are turned away, and once a drain closes all that are left.
+    fn deal_waiting(&mut self) {
+        for _waiter in 0..self.waiting.len() {
+            let Some(place) = self.emptiest() else {
+                break;
+            };
+            let Some(stream) = self.waiting.next() else {
+                break;
+            };
+            if self.hand_to(place, stream).is_none() {
+                self.tell_unserved(Unserved::NoMemory);
+            }
+        }
+        if !self.waiting.is_empty() {
+            let moment = if self.stage == Stage::Closes {
+                u64::MAX
+            } else {
+                self.clock.now(&self.rt)
+            };
+            self.turn_away_late(moment);
+        }
+    }
+
+    /// Closes those streams that have waited for a place up to that moment.
+    fn turn_away_late(&mut self, moment: u64) {
+        for _waiter in 0..self.waiting.len() {
+            let Some(stream) = self.waiting.next_late(moment) else {
+                return;
+            };
+            turn_away(stream);
+            self.tell_unserved(Unserved::NoPlace);
         }
     }
 
@@ -226,7 +306,7 @@ impl<M: Host + Net> Dealer<M> {
             return;
         };
         let stage = door.drain.stage(moment);
-        if self.listener.is_none() && stage != Stage::Serves {
+        if self.listener.is_none() && self.waiting.is_empty() && stage != Stage::Serves {
             for side in &self.sides {
                 side.follow(stage);
             }
@@ -240,7 +320,7 @@ impl<M: Host + Net> Dealer<M> {
             Readiness::Closed
         } else if self.stage != Stage::Serves {
             Readiness::Draining
-        } else if self.emptiest().is_none() {
+        } else if !self.waiting.is_empty() || self.emptiest().is_none() {
             Readiness::Full
         } else {
             Readiness::Ready
@@ -252,15 +332,10 @@ impl<M: Host + Net> Dealer<M> {
         self.sides.iter().all(|side| side.is_over())
     }
 
-    /// Hands a stream to the loop with the fewest connections. One for which there is no place or no memory is closed.
-    fn deal(&self, stream: TcpStream) -> Result<(), Unserved> {
-        let side = self.emptiest().ok_or(Unserved::NoPlace)?;
-        self.hand_to(side, stream).ok_or(Unserved::NoMemory)
-    }
-
-    /// Hands a stream to this loop. None where it is closed instead.
-    fn hand_to(&self, side: &LoopSide, stream: TcpStream) -> Option<()> {
-        let seat = Seat::among(&side.open).ok()?;
+    /// Hands a stream to the loop in that place. None where there is no memory for that: then it is closed.
+    fn hand_to(&self, place: usize, stream: TcpStream) -> Option<()> {
+        let side = self.sides.get(place)?;
+        let seat = Seat::among(&side.open, &self.main).ok()?;
         let socket = Socket::of_client(stream, seat).ok()?;
         let dealt = Dealt::new(Told::new(socket), stock(self.alloc).ok()?);
         side.hand_in(&self.rt, Mail::Stream(dealt)).ok()
@@ -274,14 +349,14 @@ impl<M: Host + Net> Dealer<M> {
         }
     }
 
-    /// The loop with the fewest connections. None where all are full or over.
-    fn emptiest(&self) -> Option<&LoopSide> {
+    /// The place of the loop with the fewest connections. None where all are full or over.
+    fn emptiest(&self) -> Option<usize> {
         let mut found = None;
         let mut fewest = CONNECTIONS;
-        for side in &self.sides {
+        for (place, side) in self.sides.iter().enumerate() {
             let open = side.open.load(Ordering::SeqCst);
             if open < fewest && !side.is_over() {
-                found = Some(&**side);
+                found = Some(place);
                 fewest = open;
             }
         }

@@ -3,6 +3,7 @@ ghost use Rattle.std.specs.Prelude.{⊤, ◌≡◌, ◌∷◌, []};
 use crate::host::{Host, NetHost, SinceStart};
 use crate::loop_log::{LogLines, LoopLog};
 use crate::loop_side::{LoopSide, Mail, Name, PAUSE};
+use crate::main_side::MainSide;
 use crate::socket::Socket;
 use admin::{LoopCounts, ServedNames};
 use call_plan::Plans;
@@ -42,8 +43,8 @@ pub(crate) struct Common<M> {
     pub(crate) lines: Option<LogLines>,
     /// What is served, by which replies are counted; None where they are not.
     pub(crate) names: Option<Arc<ServedNames>>,
-    /// Wakes main.
-    pub(crate) main: Arc<Waker>,
+    /// What main shares with them.
+    pub(crate) main: Arc<MainSide>,
 }
 
 // Clauses see nothing of it, which keeps proofs small.
@@ -63,7 +64,7 @@ pub(crate) struct Looping<M> {
     mail: Receiver<Mail>,
     /// What it shares with other threads.
     pub(crate) side: Arc<LoopSide>,
-    main: Arc<Waker>,
+    main: Arc<MainSide>,
     // whether the drain has ended the calls that were left
     has_ended_calls: bool,
 }
@@ -110,8 +111,7 @@ impl<M: NetHost> Looping<M> {
         drop(self.mail);
         drop(self.comings);
         drop(self.event_loop);
-        // it can fail only for a counter of the system's that is no more
-        let _ = self.main.wake();
+        self.main.wake();
         are_gone
     }
 

@@ -11,10 +11,12 @@ mod log_writer;
 mod loop_log;
 mod loop_side;
 mod looping;
+mod main_side;
 mod serve;
 mod socket;
 mod start_log;
 mod visitor;
+mod waiting;
 
 use command_line::{Task, read_words, task_of};
 use host::Host;

@@ -6,6 +6,7 @@ use crate::loop_log::LogLines;
 use crate::loop_side::resolver;
 use crate::looping::{Common, Looping};
 use crate::start_log::StartLog;
+use crate::waiting::MOST_WAITING;
 use admin::{Drain, ServedNames};
 use call_plan::Plans;
 use command_line::{Log, Service};
@@ -31,8 +32,10 @@ const SECOND: u64 = 1_000;
 /// itself.
 const DESCRIPTORS: u64 = 1_160;
 
-/// So many more are enough for the program.
-const FURTHER_DESCRIPTORS: u64 = 40;
+/// So many more are enough for the program: for streams that wait for a place, and for itself.
+const FURTHER_DESCRIPTORS: u64 = 300;
+
+const _: () = prove!(FURTHER_DESCRIPTORS == MOST_WAITING as u64 + 44);
 
 /// So long the program's end waits for the lines of the log that are left, in milliseconds.
 const LAST_LINES: u64 = 1_000;
@@ -76,7 +79,7 @@ fn serve_plans<M: NetHost>(
         looked_up: resolver(rt, alloc, plans.looks_up)?,
         lines: (service.log != Log::Off).then_some(lines),
         names: dealer.is_asked().then_some(plans.names),
-        main: Arc::try_clone(&dealer.waker)?,
+        main: Arc::try_clone(&dealer.main)?,
     };
     log.listens(service, plans.count);
     let most = service.connections.unwrap_or(u64::MAX);

@@ -1,4 +1,5 @@
-use libc::EMFILE;
+use crate::main_side::MainSide;
+use libc::{EMFILE, net as c};
 use mio::net::TcpStream;
 use std::alloc::AllocError;
 use std::io::{self, ErrorKind, Read, Write};
@@ -13,6 +14,9 @@ const ENFILE: i32 = 23;
 
 /// A request of so many bytes fits a packet.
 const PACKET: usize = 1_200;
+
+/// So many bytes an address has, as `connect` is to read it.
+const ADDRESS: u32 = 16;
 
 /// A socket whose reads and writes don't wait: a client's, or one to a backend. Where it could not be made its first
 /// write fails.
@@ -50,6 +54,15 @@ impl Socket {
     pub(crate) fn descriptor(&self) -> Option<RawFd> {
         Some(self.stream().ok()?.as_raw_fd())
     }
+}
+
+/// Closes a client's stream of which nothing was read, so that its client sees a reset. At an end without a byte some
+/// would wait for ever, as Node's `fetch` does.
+pub(crate) fn turn_away(stream: TcpStream) {
+    // an address of no family takes the connection back; where that fails it is closed all the same
+    let no_address = [0u8; c::_SS_SIZE];
+    let _status = unsafe { c::connect(stream.as_raw_fd(), &no_address, ADDRESS) };
+    drop(stream);
 }
 
 /// Begins to connect. Only of a long request a part would wait until what is before it is acknowledged.
@@ -97,16 +110,19 @@ impl Stream for Socket {
 /// A place among the open connections of a loop.
 pub(crate) struct Seat {
     open: Arc<AtomicU64>,
+    main: Arc<MainSide>,
     is_left: AtomicBool,
 }
 
 impl Seat {
-    /// One more among those that are counted there.
-    pub(crate) fn among(open: &Arc<AtomicU64>) -> Result<Seat, AllocError> {
+    /// One more among those that are counted there, for which main may wait.
+    pub(crate) fn among(open: &Arc<AtomicU64>, main: &Arc<MainSide>) -> Result<Seat, AllocError> {
         let open = Arc::try_clone(open)?;
+        let main = Arc::try_clone(main)?;
         open.fetch_add(1, Ordering::SeqCst);
         Ok(Seat {
             open,
+            main,
             is_left: AtomicBool::new(false),
         })
     }
@@ -115,6 +131,7 @@ impl Seat {
     pub(crate) fn leave(&self) {
         if !self.is_left.swap(true, Ordering::SeqCst) {
             self.open.fetch_sub(1, Ordering::SeqCst);
+            self.main.place_is_free();
         }
     }
 }
@@ -122,8 +139,13 @@ impl Seat {
 impl Drop for Seat {
     fn drop(self) {
         self.leave();
-        let Self { open, is_left } = self;
+        let Self {
+            open,
+            main,
+            is_left,
+        } = self;
         drop(open);
+        drop(main);
         drop(is_left);
     }
 }

@@ -1,0 +1,52 @@
+ghost use Rattle.std.specs.Prelude.{⊤};
+
+use mio::Waker;
+use std::marker::Model;
+use std::sync::atomic::{AtomicBool, Ordering};
+
+/// What main shares with the loops.
+#[derive(Drop)]
+pub(crate) struct MainSide {
+    waker: Waker,
+    // whether main waits for a place in a loop
+    awaits_place: AtomicBool,
+}
+
+// Clauses see nothing of it, which keeps proofs small.
+impl Model for MainSide {
+    ghost Value = { ⊤ };
+
+    ghost view = { λ _. tt };
+}
+
+impl MainSide {
+    /// Of a main that this waker wakes, and that waits for no place.
+    pub(crate) fn new(waker: Waker) -> MainSide {
+        MainSide {
+            waker,
+            awaits_place: AtomicBool::new(false),
+        }
+    }
+
+    /// Main waits for a place from now on, or no more. It looks for one behind this, and then sleeps.
+    pub(crate) fn await_place(&self, is_awaited: bool) {
+        self.awaits_place.store(is_awaited, Ordering::SeqCst);
+    }
+
+    /// A place was given back: wakes main, once, if it waits for one.
+    pub(crate) fn place_is_free(&self) {
+        let is_awaited = self.awaits_place.load(Ordering::SeqCst);
+        if is_awaited && self.awaits_place.swap(false, Ordering::SeqCst) {
+            if self.waker.wake().is_err() {
+                // the next place wakes it; and it looks for one before it turns anyone away
+                self.awaits_place.store(true, Ordering::SeqCst);
+            }
+        }
+    }
+
+    /// A loop is over: wakes main.
+    pub(crate) fn wake(&self) {
+        // it can fail only for a counter of the system's that is no more
+        let _ = self.waker.wake();
+    }
+}
