@@ -350,6 +350,22 @@ def case_serve_no_sockets_to_wait_for(room):
     serve_each(room, "watch", "failed", judge_cut, starts_with(room, "watch"))
 
 
+def case_serve_accept_lasting(room):
+    """serve: an accept that fails for other reasons than a lack of descriptors ends the program, once what is open is served"""
+    with Backend() as backend:
+        plans = plan([backend.port], 1, timeout=5000)
+        begun = f"{room.folder}/begun"
+        run, port = room.serve(plans, variables={**variables("accept", 1, "lasting", 2), "FAULT_WHEN": begun})
+        with client(port) as stream:
+            expect("before", ask(stream), ANSWER)
+            with open(begun, "wb"):
+                pass
+            with contextlib.suppress(ConnectionError), client(port) as second:
+                expect("one that comes then", ask(second).removesuffix(b" (reset)"), b"")
+            expect("when nobody listens any more", ask(stream), ANSWER)
+        expect("the gateway's end", end_of(run)[0][0], IO[0])
+
+
 def all_sleep(run):
     """Whether no thread of a program has run for a while."""
     before = waits_of(run)

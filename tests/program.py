@@ -4,6 +4,7 @@ Each case is a function of one of the modules below, named by its first line. Al
 ports that are free, and ends with it; a case that takes longer than its time has failed. One that this machine has no
 means for says so, and counts as neither."""
 import os
+import resource
 import shutil
 import signal
 import sys
@@ -59,6 +60,8 @@ def try_case(case, program):
 
 def main():
     program = sys.argv[1]
+    most = resource.getrlimit(resource.RLIMIT_NOFILE)[1]
+    resource.setrlimit(resource.RLIMIT_NOFILE, (most, most))
     signal.signal(signal.SIGALRM, late)
     cases = [value for module in MODULES for name, value in vars(module).items() if name.startswith("case_")]
     passed = [try_case(case, program) for case in cases]

@@ -9,9 +9,12 @@ import struct
 import termios
 import time
 
+from program_admin import serve
+from program_loops import need_descriptors
 from program_room import (
-    DONE, EMPTY_SCRIPT, HERE, IO, LONGEST, MEMORY, PLANS, SCRIPT, WAIT, WORDS, Wrong, answers, be_nobody, client,
-    end_of, expect, free_port, is_refused, limit_now, listener, plan, sees_end, serve_words, size_of,
+    DONE, EMPTY_SCRIPT, HERE, IO, LONGEST, MEMORY, NOT_FOUND, PLANS, SCRIPT, STRAY, WAIT, WORDS, Wrong, answers, be_nobody,
+    client, end_of, expect, free_port, is_quiet, is_refused, limit_now, listener, listens, plan, read_to, serve_words,
+    size_of,
 )
 
 # ---- the words
@@ -134,23 +137,58 @@ def case_address(room):
 
 
 def case_accept_fails(room):
-    """an accept that fails: what is open is served to its end, and then the program ends"""
-    run, port = room.serve(b"[]")
-    with client(port) as stream:
+    """streams for which there is no descriptor wait at the listener, however long; operators are answered meanwhile, and
+    it is told once"""
+    run, port, where = serve(room, b"[]", "--log", "--connections", "3")
+    listens(run.stderr)
+    with client(port) as stream, client(where) as operator:
         answers("before", stream)
+        time.sleep(0.2)
         limit_now(run, resource.RLIMIT_NOFILE, 3)
-        # the descriptor of the next stream was there before the limit, if main waited for it by then
-        with client(port) as last:
+        with client(port) as second, client(port) as third:
             time.sleep(0.2)
-            expect("whether it goes on while a stream is open", run.poll(), None)
-            answers("after", stream)
-            last.shutdown(socket.SHUT_WR)
-            end = time.monotonic() + WAIT
-            while not is_refused(port):
-                expect("whether it listens for long", time.monotonic() < end, True)
-                time.sleep(0.1)
-            answers("when nobody listens any more", stream)
-    room.ends("the program", run, IO)
+            operator.sendall(b"GET /ready HTTP/1.1\r\nHost: g\r\n\r\n")
+            expect("what an operator is told", read_to(operator, 12), b"HTTP/1.1 200")
+            # longer than an accept that fails otherwise is tried again
+            time.sleep(4)
+            expect("whether it goes on", run.poll(), None)
+            answers("meanwhile", stream)
+            third.sendall(STRAY)
+            expect("whether there is a descriptor", is_quiet(third), True)
+            limit_now(run, resource.RLIMIT_NOFILE, 1_000)
+            expect("the last", read_to(third, len(NOT_FOUND)), NOT_FOUND)
+            answers("the second", second)
+    found, said = run.wait(timeout=WAIT), run.stderr.read().splitlines()
+    expect("the status", found, 0)
+    expect("what is told of descriptors", [line["warning"] for line in map(json.loads, said) if "warning" in line], [
+        "descriptors: none is left, and streams wait at the listener: ulimit -n, or LimitNOFILE in a unit"])
+
+
+def case_thousand_silent(room):
+    """a thousand silent clients at the usual limit of descriptors end nothing, and others are served as some go"""
+    need_descriptors(4_096)
+    usual = (1_024, 1_024)
+    run, port = room.serve(b"[]", workers=16, limit=lambda: resource.setrlimit(resource.RLIMIT_NOFILE, usual))
+    with contextlib.ExitStack() as opened:
+        silent = [opened.enter_context(client(port)) for _ in range(1_000)]
+        time.sleep(4)
+        expect("whether it goes on", run.poll(), None)
+        answers("the first, which asks at last", silent[0])
+        for stream in silent[500:600]:
+            stream.close()
+        answers("the last", silent[-1])
+        answers("one that comes then", opened.enter_context(client(port)))
+
+
+def case_few_descriptors(room):
+    """without --log a line tells where fewer descriptors are allowed than may be needed, and nothing else is told"""
+    few = "connect_gateway: descriptors: 2619 are allowed, and 2620 are always enough: ulimit -n, or LimitNOFILE in a unit\n"
+    for allowed, wanted in ((2_619, few), (2_620, "")):
+        limit = (allowed, allowed)
+        run, port = room.serve(b"[]", 2, streams=1, limit=lambda: resource.setrlimit(resource.RLIMIT_NOFILE, limit))
+        client(port).close()
+        said = run.communicate(timeout=WAIT)[1].decode()
+        expect(f"with {allowed}", (run.returncode, said), (0, wanted))
 
 
 def case_no_crew(room):

@@ -4,6 +4,7 @@ import contextlib
 import ctypes
 import json
 import os
+import re
 import resource
 import select
 import signal
@@ -100,13 +101,20 @@ class Room:
                     stream.close()
 
 
+# what is said first, without a log, where this machine allows fewer descriptors than so many workers may need
+FEW_DESCRIPTORS = re.compile(r"connect_gateway: descriptors: \d+ are allowed, and \d+ are always enough: .*\n")
+
+
 def end_of(run):
-    """How a run ended: its status and what stands on standard error; and what it printed, if that was asked for."""
+    """How a run ended: its status and what stands on standard error, but for a warning of too few descriptors; and what it
+    printed, if that was asked for."""
     try:
         output, said = run.communicate(timeout=WAIT)
     except subprocess.TimeoutExpired:
         raise Wrong(f"it has not ended after {WAIT} seconds") from None
-    return (run.returncode, said.decode(errors="replace")), output
+    said = said.decode(errors="replace")
+    warned = FEW_DESCRIPTORS.match(said)
+    return (run.returncode, said[warned.end():] if warned else said), output
 
 
 def serve_words(port, plans, workers=1, streams=None):

@@ -2,12 +2,13 @@ ghost use Rattle.std.specs.Prelude.{⊤};
 
 use crate::admin_door::{AdminDoor, Now};
 use crate::host::{Host, SinceStart};
+use crate::log_writer::milliseconds_since_1970;
 use crate::loop_log::LogLines;
 use crate::loop_side::{LoopSide, Mail};
 use crate::main_side::MainSide;
-use crate::socket::{Seat, Socket, turn_away};
+use crate::socket::{Seat, Socket, lacks_descriptor, turn_away};
 use crate::waiting::Waiting;
-use access_log::Unserved;
+use access_log::{Remark, Unserved, remark_line};
 use admin::{Readiness, Stage};
 use gateway_loop::Dealt;
 use mio::net::{TcpListener, TcpStream};
@@ -34,6 +35,10 @@ const MOST_TRIES: u32 = 300;
 
 /// Behind so many streams that were accepted without a wait it is looked at who else came.
 const MANY: u64 = 64;
+
+/// What is told where there is no descriptor for a stream.
+const NO_DESCRIPTOR: &str =
+    "descriptors: none is left, and streams wait at the listener: ulimit -n, or LimitNOFILE in a unit";
 
 const LISTENER: Token = Token(0);
 
@@ -62,6 +67,8 @@ pub(crate) struct Dealer<M> {
     log: Option<LogLines>,
     // how many streams were closed without a byte
     unserved: u64,
+    // whether it was told that there is no descriptor for a stream, which waits at the listener
+    tells_descriptors: bool,
     // the stage of a drain that the loops know
     stage: Stage,
 }
@@ -103,6 +110,7 @@ impl<M: Host + Net> Dealer<M> {
             admin,
             log,
             unserved: 0,
+            tells_descriptors: false,
             stage: Stage::Serves,
         })
     }
@@ -140,8 +148,8 @@ impl<M: Host + Net> Dealer<M> {
         unreachable!()
     }
 
-    /// Accepts so many streams, or until a drain ends that, and deals each to a loop. `Io` where accepting fails for
-    /// too long, and where no loop is left.
+    /// Accepts so many streams, or until a drain ends that, and deals each to a loop. Where there is no descriptor for
+    /// one it is tried again. `Io` where accepting fails otherwise for too long, and where no loop is left.
     pub(crate) fn deal_streams(&mut self, most: u64) -> Result<(), Fault> {
         let rt = self.rt;
         let mut accepted: u64 = 0;
@@ -167,11 +175,25 @@ impl<M: Host + Net> Dealer<M> {
                 Ok(Accepted::NoMore) => return Ok(()),
                 // in a drain nobody is waited for
                 Err(_) if self.stage == Stage::Closes => return Ok(()),
+                Err(error) if lacks_descriptor(&error) => self.pause_for_descriptor(),
                 Err(_) if tries >= MOST_TRIES => return Err(Fault::Io),
                 Err(_) => tries = tries.saturating_add(u32::from(!self.pause())),
             }
         }
         unreachable!()
+    }
+
+    /// Pauses where there is no descriptor for a stream. That is told once, until none waits at the listener any more.
+    fn pause_for_descriptor(&mut self) {
+        if let Some(log) = &self.log {
+            if !self.tells_descriptors {
+                let time = milliseconds_since_1970(&self.rt);
+                let line = remark_line(self.alloc, time, Remark::Warning, NO_DESCRIPTOR);
+                log.add(&self.rt, line.ok());
+            }
+        }
+        self.tells_descriptors = true;
+        let _is_asking = self.pause();
     }
 
     /// Pauses after an accept that failed, and attends to operators. Answers whether a backend is asked.
@@ -197,7 +219,7 @@ impl<M: Host + Net> Dealer<M> {
     }
 
     /// The next stream that waits at the listener, unless no more may wait for a place.
-    fn next_stream(&self) -> io::Result<Option<TcpStream>> {
+    fn next_stream(&mut self) -> io::Result<Option<TcpStream>> {
         let Some(listener) = &self.listener else {
             return Ok(None);
         };
@@ -206,7 +228,10 @@ impl<M: Host + Net> Dealer<M> {
         }
         match listener.accept() {
             Ok((stream, _peer)) => Ok(Some(stream)),
-            Err(error) if error.kind() == ErrorKind::WouldBlock => Ok(None),
+            Err(error) if error.kind() == ErrorKind::WouldBlock => {
+                self.tells_descriptors = false;
+                Ok(None)
+            }
             Err(error) => Err(error),
         }
     }

@@ -76,10 +76,16 @@ fn connect<R: Net>(rt: &R, address: SocketAddr, length: usize) -> io::Result<Tcp
 
 /// The kind of a failed connection. `QuotaExceeded` where the program or the system has no descriptor left.
 fn kind_of(error: &io::Error) -> ErrorKind {
-    match error.raw_os_error() {
-        Some(EMFILE | ENFILE) => ErrorKind::QuotaExceeded,
-        _ => error.kind(),
+    if lacks_descriptor(error) {
+        ErrorKind::QuotaExceeded
+    } else {
+        error.kind()
     }
+}
+
+/// Whether the program or the system has no descriptor left.
+pub(crate) fn lacks_descriptor(error: &io::Error) -> bool {
+    matches!(error.raw_os_error(), Some(EMFILE | ENFILE))
 }
 
 impl Read for Socket {

@@ -11,7 +11,7 @@ use std::io::{self, Eprint};
 use std::marker::Model;
 use std::time::Clock;
 
-/// What is told on standard error before the first stream is accepted, with `--log` alone.
+/// What is told on standard error before the first stream is accepted, with `--log` alone but for one warning.
 #[derive(Drop)]
 pub(crate) struct StartLog<M> {
     rt: M,
@@ -61,9 +61,13 @@ impl<M: Clock + Eprint> StartLog<M> {
         }
     }
 
-    /// Tells what may not go as it is meant.
+    /// Tells what may not go as it is meant; where it does not speak, by a plain line.
     pub(crate) fn warn(&self, subject: &str, text: &str) {
-        self.remark(Remark::Warning, subject, &text);
+        if self.speaks {
+            self.remark(Remark::Warning, subject, &text);
+        } else if let Ok(line) = format!(in self.alloc; "connect_gateway: {subject}: {text}") {
+            let _ = self.rt.eprintln(line.as_str());
+        }
     }
 
     /// Tells that it listens, and what it serves.
