@@ -171,24 +171,25 @@ class Backend:
         os.waitpid(self.pid, 0)
 
 
-def ask_three(port):
-    """Makes a call on each of three streams, one after another, and returns what came back for them."""
+def ask_three(port, pause=0.0):
+    """Makes a call on each of three streams, one after another with pauses, and returns what came back for them."""
     found = []
     for _stream in range(3):
+        time.sleep(pause)
         with contextlib.suppress(ConnectionError), client(port) as stream:
             found.append(ask(stream))
     return found
 
 
-def serve_each(room, what, how, judge, first=1, name=b"127.0.0.1"):
-    """Serves three streams, one after another, with each such call failing. JUDGE looks at what came back for their
-    calls. The gateway then ends by itself."""
+def serve_each(room, what, how, judge, first=1, name=b"127.0.0.1", pause=0.0):
+    """Serves three streams, one after another with pauses, with each such call failing. JUDGE looks at what came back for
+    their calls. The gateway then ends by itself."""
     with Backend() as backend:
         plans = plan([backend.port], 1, timeout=5000).replace(b"127.0.0.1", name)
 
         def run(env, files):
             started, port = room.serve(plans, streams=3, variables=env, pass_fds=files)
-            return ask_three(port), end_of(started)[0]
+            return ask_three(port, pause), end_of(started)[0]
 
         each(what, how, run, judge, first)
 
@@ -264,8 +265,8 @@ def case_serve_option_fails(room):
 
 
 def case_serve_look_up_fails(room):
-    """serve: each look-up that fails concerns one stream, and the others are served"""
-    serve_each(room, "look-up", "failed", judge_apart, name=b"localhost")
+    """serve: each look-up that fails concerns one stream, and others that come more than a second later are served"""
+    serve_each(room, "look-up", "failed", judge_apart, name=b"localhost", pause=1.2)
 
 
 def case_serve_wait_fails(room):

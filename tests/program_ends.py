@@ -182,8 +182,8 @@ def case_thousand_silent(room):
 
 def case_few_descriptors(room):
     """without --log a line tells where fewer descriptors are allowed than may be needed, and nothing else is told"""
-    few = "connect_gateway: descriptors: 2619 are allowed, and 2620 are always enough: ulimit -n, or LimitNOFILE in a unit\n"
-    for allowed, wanted in ((2_619, few), (2_620, "")):
+    few = "connect_gateway: descriptors: 2879 are allowed, and 2880 are always enough: ulimit -n, or LimitNOFILE in a unit\n"
+    for allowed, wanted in ((2_879, few), (2_880, "")):
         limit = (allowed, allowed)
         run, port = room.serve(b"[]", 2, streams=1, limit=lambda: resource.setrlimit(resource.RLIMIT_NOFILE, limit))
         client(port).close()

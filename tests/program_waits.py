@@ -182,6 +182,104 @@ def case_name_of_two_addresses(room):
             expect("the reply", read_reply(stream), ("200", b'{"b0":1}'))
 
 
+class NameServer:
+    """A server of names at an address of its own, which counts the questions that it is asked, by name. It answers that
+    there is no such name, or nothing."""
+
+    def __init__(self, answers):
+        self.answers, self.asked = answers, []
+        self.socket = socket.socket(socket.AF_INET, socket.SOCK_DGRAM)
+        try:
+            self.socket.bind(("127.53.53.53", 53))
+        except OSError:
+            raise Untried("no server of names can be had") from None
+        self.thread = threading.Thread(target=self.serve, daemon=True)
+        self.thread.start()
+
+    def serve(self):
+        with contextlib.suppress(OSError):
+            while True:
+                question, who = self.socket.recvfrom(4_096)
+                if not question:
+                    return
+                self.asked.append(question[13:13 + question[12]].decode())
+                if self.answers:
+                    self.socket.sendto(question[:2] + b"\x81\x83" + question[4:], who)
+
+    def __enter__(self):
+        return self
+
+    def __exit__(self, *_why):
+        # a datagram of nothing ends its thread, which would keep the socket open
+        with socket.socket(socket.AF_INET, socket.SOCK_DGRAM) as last:
+            last.sendto(b"", ("127.53.53.53", 53))
+        self.thread.join()
+        self.socket.close()
+
+
+def named_plan(paths):
+    """A plan file with a plan for each of these paths: the name and the port of its one backend."""
+    return json.dumps([
+        {"path": path, "limit": 1, "branches": [{"name": "b0", "address": f"{name}:{port}", "path": "/ask"}]}
+        for path, (name, port) in paths.items()]).encode()
+
+
+def serve_with_names(room, paths, hosts):
+    """Serves plans whose backends are names: those in hosts are found, and others asked of the server of names."""
+    files = [
+        (room.file("hosts", hosts), "/etc/hosts"),
+        (room.file("resolv", b"nameserver 127.53.53.53\noptions timeout:30 attempts:1\n"), "/etc/resolv.conf"),
+        (room.file("switch", b"hosts: files dns\n"), "/etc/nsswitch.conf"),
+    ]
+    try:
+        return room.serve(named_plan(paths), workers=4, limit=lambda: mount(files))
+    except subprocess.SubprocessError:
+        raise Untried("it can't have names of its own") from None
+
+
+def case_dead_names(room):
+    """names of which nothing is heard hold up no other name, and each is looked up once for all workers"""
+    with NameServer(answers=False) as names, Backend("1") as backend, contextlib.ExitStack() as opened:
+        dead = {f"/dead{at}": (f"dead{at}.test.", 80) for at in range(8)}
+        paths = {**dead, "/live": ("live", backend.port)}
+        _run, port = serve_with_names(room, paths, b"127.0.0.1 live\n")
+        for path in dead:
+            for _ in range(4):
+                # each goes to another worker
+                call(opened.enter_context(client(port)), path=path)
+        time.sleep(0.5)
+        with client(port) as stream:
+            took = []
+            for _ in range(5):
+                began = time.monotonic()
+                call(stream, path="/live")
+                expect("a name that is found", read_reply(stream), ("200", b'{"b0":1}'))
+                took.append(time.monotonic() - began)
+        expect(f"whether one came soon, {took} seconds", min(took) < 1, True)
+        # by its addresses of version 4 and of version 6
+        expect("how often each was asked for", {name: names.asked.count(name) for name in sorted(set(names.asked))},
+               {f"dead{at}": 2 for at in range(8)})
+
+
+def case_missing_name(room):
+    """a name that was not found is not looked up again within a second, and is then"""
+    with NameServer(answers=True) as names:
+        _run, port = serve_with_names(room, {"/call": ("missing.test.", 80)}, b"\n")
+        with client(port) as stream:
+            for _ in range(2):
+                before = len(names.asked)
+                began = time.monotonic()
+                for _ in range(40):
+                    call(stream)
+                    expect("the status", read_reply(stream)[0], "503")
+                took = time.monotonic() - began
+                asked = len(names.asked) - before
+                # each look-up asks for addresses of version 4 and of version 6
+                expect(f"whether it was looked up, and at most each second, by {asked} questions in {took:.1f} seconds",
+                       2 <= asked <= 2 * (1 + int(took)), True)
+                time.sleep(1.2)
+
+
 def case_no_standard_streams(room):
     """lines of the log go to no client, also if the program was started without standard output and error"""
 

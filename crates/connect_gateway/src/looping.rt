@@ -2,12 +2,13 @@ ghost use Rattle.std.specs.Prelude.{⊤, ◌≡◌, ◌∷◌, []};
 
 use crate::host::{Host, NetHost, SinceStart};
 use crate::loop_log::{LogLines, LoopLog};
-use crate::loop_side::{LoopSide, Mail, Name, PAUSE};
+use crate::loop_side::{LoopSide, Mail, PAUSE};
 use crate::main_side::MainSide;
+use crate::resolver::Resolver;
 use crate::socket::Socket;
 use admin::{LoopCounts, ServedNames};
 use call_plan::Plans;
-use crossbeam_channel::{Receiver, Sender};
+use crossbeam_channel::Receiver;
 use gateway_core::{CallId, ReplyEntry};
 use gateway_loop::{BranchEnd, Comings, EventLoop, Network, Ready};
 use http_server::Log;
@@ -37,8 +38,8 @@ pub(crate) struct Common<M> {
     pub(crate) alloc: Global,
     /// From when on moments count.
     pub(crate) clock: SinceStart,
-    /// Names are handed in there to be looked up.
-    pub(crate) looked_up: Sender<Name>,
+    /// Looks names up for them.
+    pub(crate) resolver: Arc<Resolver>,
     /// None where nothing is told.
     pub(crate) lines: Option<LogLines>,
     /// What is served, by which replies are counted; None where they are not.
@@ -202,12 +203,11 @@ const MOST_EVENTS: usize = 256;
 #[derive(Drop)]
 pub(crate) struct MioNetwork<M> {
     rt: M,
-    alloc: Global,
     poll: Poll,
     events: Events,
     clock: SinceStart,
     side: Arc<LoopSide>,
-    names: Sender<Name>,
+    resolver: Arc<Resolver>,
     log: Option<LoopLog>,
     told: Log<u64, ()>,
 }
@@ -230,15 +230,14 @@ impl<M: Host> MioNetwork<M> {
         side: &Arc<LoopSide>,
     ) -> Result<MioNetwork<M>, AllocError> {
         let side = Arc::try_clone(side)?;
-        let names = common.looked_up.clone()?;
+        let resolver = Arc::try_clone(&common.resolver)?;
         let lines = common.lines.as_ref();
         let log = lines.map(|lines| lines.of_loop(common.alloc, worker));
         Ok(MioNetwork {
             rt: common.rt,
-            alloc: common.alloc,
             clock: common.clock,
             side,
-            names,
+            resolver,
             log: log.transpose()?,
             events: Events::with_capacity(common.alloc, MOST_EVENTS)?,
             poll,
@@ -302,8 +301,7 @@ impl<M: NetHost> Network<Told<Socket>> for MioNetwork<M> {
     }
 
     fn look_up(&mut self, name: &str) -> bool {
-        let name = Name::new(self.alloc, name, &self.side);
-        name.is_ok_and(|name| self.names.send(&self.rt, name).is_ok())
+        self.resolver.ask(&self.rt, name, &self.side).is_some()
     }
 
     fn tell_reply(&mut self, id: CallId, entry: &ReplyEntry) {

@@ -12,6 +12,8 @@ mod loop_log;
 mod loop_side;
 mod looping;
 mod main_side;
+mod name_table;
+mod resolver;
 mod serve;
 mod socket;
 mod start_log;

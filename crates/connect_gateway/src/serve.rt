@@ -3,8 +3,8 @@ use crate::dealer::Dealer;
 use crate::host::{Host, NetHost, SinceStart};
 use crate::log_writer::LogWriter;
 use crate::loop_log::LogLines;
-use crate::loop_side::resolver;
 use crate::looping::{Common, Looping};
+use crate::resolver::{MOST_LOOKERS, Resolver};
 use crate::start_log::StartLog;
 use crate::waiting::MOST_WAITING;
 use admin::{Drain, ServedNames};
@@ -32,10 +32,11 @@ const SECOND: u64 = 1_000;
 /// itself.
 const DESCRIPTORS: u64 = 1_160;
 
-/// So many more are enough for the program: for streams that wait for a place, and for itself.
-const FURTHER_DESCRIPTORS: u64 = 300;
+/// So many more are enough for the program: for streams that wait for a place, for names that are looked up, four each,
+/// and for itself.
+const FURTHER_DESCRIPTORS: u64 = 560;
 
-const _: () = prove!(FURTHER_DESCRIPTORS == MOST_WAITING as u64 + 44);
+const _: () = prove!(FURTHER_DESCRIPTORS == MOST_WAITING as u64 + 4 * MOST_LOOKERS as u64 + 48);
 
 /// So long the program's end waits for the lines of the log that are left, in milliseconds.
 const LAST_LINES: u64 = 1_000;
@@ -72,11 +73,12 @@ fn serve_plans<M: NetHost>(
     let clock = SinceStart::new(Instant::now(&rt)?);
     let (lines, writer) = LogWriter::new(alloc, service.log == Log::All)?;
     let dealer = dealer(rt, alloc, log, clock, service, &plans.names, &lines)?;
+    let resolver = Resolver::new(rt, alloc, clock, plans.names_looked_up)?;
     let common = Common {
         rt,
         alloc,
         clock,
-        looked_up: resolver(rt, alloc, plans.looks_up)?,
+        resolver: Arc::new(alloc, resolver)?,
         lines: (service.log != Log::Off).then_some(lines),
         names: dealer.is_asked().then_some(plans.names),
         main: Arc::try_clone(&dealer.main)?,
@@ -93,13 +95,13 @@ struct ServedPlans {
     of_workers: Vec<Plans>,
     names: Arc<ServedNames>,
     count: usize,
-    // whether names have to be looked up
-    looks_up: bool,
+    // how many branches have names for addresses, which have to be looked up
+    names_looked_up: usize,
 }
 
 impl ServedPlans {
     fn of(alloc: Global, file: &PlanFile, workers: u32) -> Result<ServedPlans, Fault> {
-        let looks_up = file.has_names(alloc)?;
+        let names_looked_up = file.names(alloc)?;
         let paths = file.paths(alloc)?;
         let count = paths.len();
         let plans = file.plans(alloc)?;
@@ -113,7 +115,7 @@ impl ServedPlans {
             of_workers,
             names,
             count,
-            looks_up,
+            names_looked_up,
         })
     }
 }

@@ -75,21 +75,28 @@ impl PlanFile {
         Ok(paths)
     }
 
-    /// Whether the address of a backend is a name, which must be looked up.
-    pub fn has_names(&self, alloc: Global) -> Result<bool, AllocError> {
+    /// How many branches have a name for an address, which must be looked up.
+    pub fn names(&self, alloc: Global) -> Result<usize, AllocError> {
         match json_value(alloc, self.text.as_slice())? {
-            Some(plans) => Ok(elements_of(&plans).iter().any(has_name)),
-            None => Ok(false),
+            Some(plans) => Ok(names_of(&plans)),
+            None => Ok(0),
         }
     }
 }
 
-/// Whether the address of a plan's backend is a name.
-fn has_name(plan: &Value) -> bool {
-    match plan.get("branches") {
-        Some(branches) => elements_of(branches).iter().any(is_named),
-        None => false,
+/// How many branches of the plans have a name for an address.
+fn names_of(plans: &Value) -> usize {
+    let mut count = 0usize;
+    for plan in elements_of(plans) {
+        if let Some(branches) = plan.get("branches") {
+            let named = elements_of(branches)
+                .iter()
+                .filter(|branch| is_named(branch))
+                .count();
+            count = count.saturating_add(named);
+        }
     }
+    count
 }
 
 /// Whether the address of a branch is a name, and no number.
