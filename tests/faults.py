@@ -351,6 +351,11 @@ def case_serve_no_sockets_to_wait_for(room):
     serve_each(room, "watch", "failed", judge_cut, starts_with(room, "watch"))
 
 
+def case_serve_wakes(room):
+    """serve: a loop or main that can't be woken is woken again: each stream is served, and the program ends"""
+    serve_each(room, "write", "failed", all_answered)
+
+
 def case_serve_accept_lasting(room):
     """serve: an accept that fails for other reasons than a lack of descriptors ends the program, once what is open is served"""
     with Backend() as backend:

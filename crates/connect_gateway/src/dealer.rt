@@ -125,7 +125,7 @@ impl<M: Host + Net> Dealer<M> {
         drop(self.listener.take());
         self.turn_away_late(u64::MAX);
         for side in &self.sides {
-            side.close();
+            side.close(&self.rt);
         }
         let moment = self.clock.now(&self.rt);
         if let Some(door) = &mut self.admin {
@@ -333,7 +333,7 @@ impl<M: Host + Net> Dealer<M> {
         let stage = door.drain.stage(moment);
         if self.listener.is_none() && self.waiting.is_empty() && stage != Stage::Serves {
             for side in &self.sides {
-                side.follow(stage);
+                side.follow(&self.rt, stage);
             }
         }
         self.stage = stage;

@@ -11,9 +11,12 @@ use std::alloc::{AllocError, Global};
 use std::marker::Model;
 use std::sync::atomic::{AtomicBool, AtomicU64, Ordering};
 use std::sync::{Arc, Mutex, Wait};
+use std::thread;
+use std::time::{Clock, Duration};
 use wires::Told;
 
-/// What failed is tried again after so many milliseconds: a wait of a loop, and handing in what was found for a name.
+/// What failed is tried again after so many milliseconds: a wait of a loop, waking one, and handing in what was found for
+/// a name.
 pub(crate) const PAUSE: u64 = 10;
 
 /// What other threads hand to a loop.
@@ -90,17 +93,17 @@ impl LoopSide {
     }
 
     /// Hands something in, and wakes the loop. Hands it back where the loop is over, and where there is no memory.
-    pub(crate) fn hand_in<R: Wait>(&self, rt: &R, mail: Mail) -> Result<(), Mail> {
+    pub(crate) fn hand_in<R: Wait + Clock>(&self, rt: &R, mail: Mail) -> Result<(), Mail> {
         let sent = self.mail.send(rt, mail);
         sent.map_err(|refused| refused.into_inner())?;
-        self.wake();
+        self.wake(rt);
         Ok(())
     }
 
     /// No more streams will come: the loop ends once its clients have gone.
-    pub(crate) fn close(&self) {
+    pub(crate) fn close<R: Wait + Clock>(&self, rt: &R) {
         self.is_closed.store(true, Ordering::SeqCst);
-        self.wake();
+        self.wake(rt);
     }
 
     pub(crate) fn is_closed(&self) -> bool {
@@ -108,7 +111,7 @@ impl LoopSide {
     }
 
     /// The gateway is drained: this stage of it has come. Streams come no more by then.
-    pub(crate) fn follow(&self, stage: Stage) {
+    pub(crate) fn follow<R: Wait + Clock>(&self, rt: &R, stage: Stage) {
         let is_known = match stage {
             Stage::Serves | Stage::Accepts => true,
             Stage::Closes => self.closes_idle.swap(true, Ordering::SeqCst),
@@ -119,7 +122,7 @@ impl LoopSide {
             Stage::Cuts => self.is_cut.swap(true, Ordering::SeqCst),
         };
         if !is_known {
-            self.wake();
+            self.wake(rt);
         }
     }
 
@@ -142,8 +145,15 @@ impl LoopSide {
         *self.standing.lock(rt) = standing;
     }
 
-    fn wake(&self) {
-        // it can fail only for a counter of the system's that is no more
-        let _ = self.waker.wake();
+    /// Wakes the loop. Where the system refuses that it is tried again, as long as the loop is there: else the loop would
+    /// sleep on until something else wakes it.
+    fn wake<R: Wait + Clock>(&self, rt: &R) {
+        for _ in rt.forever() {
+            if self.waker.wake().is_ok() || self.is_over() {
+                return;
+            }
+            thread::sleep(rt, Duration::from_millis(PAUSE));
+        }
+        unreachable!()
     }
 }

@@ -112,7 +112,7 @@ impl<M: NetHost> Looping<M> {
         drop(self.mail);
         drop(self.comings);
         drop(self.event_loop);
-        self.main.wake();
+        self.main.wake(&self.rt);
         are_gone
     }
 

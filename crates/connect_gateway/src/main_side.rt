@@ -1,8 +1,12 @@
 ghost use Rattle.std.specs.Prelude.{⊤};
 
+use crate::loop_side::PAUSE;
 use mio::Waker;
 use std::marker::Model;
+use std::sync::Wait;
 use std::sync::atomic::{AtomicBool, Ordering};
+use std::thread;
+use std::time::{Clock, Duration};
 
 /// What main shares with the loops.
 #[derive(Drop)]
@@ -44,9 +48,14 @@ impl MainSide {
         }
     }
 
-    /// A loop is over: wakes main.
-    pub(crate) fn wake(&self) {
-        // it can fail only for a counter of the system's that is no more
-        let _ = self.waker.wake();
+    /// A loop is over: wakes main. Where the system refuses that it is tried again.
+    pub(crate) fn wake<R: Wait + Clock>(&self, rt: &R) {
+        for _ in rt.forever() {
+            if self.waker.wake().is_ok() {
+                return;
+            }
+            thread::sleep(rt, Duration::from_millis(PAUSE));
+        }
+        unreachable!()
     }
 }
