@@ -405,7 +405,7 @@ def dying(room, workers):
 
 
 def case_serve_places_of_a_dead_loop(room):
-    """serve: the places of a loop that has died are nobody's: who waits gets one of another loop"""
+    """serve: the places of a loop that has died are nobody's: who waits gets one of another loop. Its gauges are 0"""
     with dying(room, 2) as (_run, port, where, begin), contextlib.ExitStack() as opened:
         holders = program_places.fill(opened, port, 128)
         begin(holders[0])
@@ -414,6 +414,10 @@ def case_serve_places_of_a_dead_loop(room):
         ended = set(select.select(holders, [], [], 0)[0])
         expect("how many were its", len(ended), 64)
         others = [stream for stream in holders if stream not in ended]
+        found = program_admin.figures(where)
+        names = ("connect_gateway_open_connections", "connect_gateway_backend_exchanges")
+        gauges = [sorted(value for key, value in found.items() if key[0] == name) for name in names]
+        expect("the gauges of the loops", gauges, [[0, 64], [0, 0]])
         waiting = program_places.ask_for_a_place(opened, port)
         expect("while ten wait", program_admin.asks(where, "/ready"), (503, "full"))
         program_places.give_up(others[0])

@@ -72,17 +72,11 @@ impl LoopSide {
             open: Arc::new(alloc, AtomicU64::new(0))?,
             counts,
             unserved: AtomicU64::new(0),
-            standing: Mutex::new(LoopStanding {
-                open: 0,
-                lingering: 0,
-                asking: 0,
-                waiting: 0,
-                tally: Tally {
-                    counted: 0,
-                    late: 0,
-                    unknown: 0,
-                },
-            }),
+            standing: Mutex::new(idle(Tally {
+                counted: 0,
+                late: 0,
+                unknown: 0,
+            })),
             is_closed: AtomicBool::new(false),
             closes_idle: AtomicBool::new(false),
             ends_calls: AtomicBool::new(false),
@@ -126,9 +120,12 @@ impl LoopSide {
         }
     }
 
-    /// It serves nobody any more.
-    pub(crate) fn end(&self) {
+    /// It serves nobody any more: it has no connections and asks no backends, whatever it had when it ended. What it
+    /// counted stays.
+    pub(crate) fn end<R: Wait>(&self, rt: &R) {
         self.is_over.store(true, Ordering::SeqCst);
+        let tally = self.standing(rt).tally;
+        self.tell(rt, idle(tally));
     }
 
     pub(crate) fn is_over(&self) -> bool {
@@ -155,5 +152,16 @@ impl LoopSide {
             thread::sleep(rt, Duration::from_millis(PAUSE));
         }
         unreachable!()
+    }
+}
+
+/// A loop that has nothing to do, and has counted these results.
+fn idle(tally: Tally) -> LoopStanding {
+    LoopStanding {
+        open: 0,
+        lingering: 0,
+        asking: 0,
+        waiting: 0,
+        tally,
     }
 }

@@ -108,7 +108,7 @@ impl<M: NetHost> Looping<M> {
     /// them any more. Those that are left are closed. Answers whether it did not give up.
     pub(crate) fn run(mut self) -> bool {
         let are_gone = self.serve();
-        self.side.end();
+        self.side.end(&self.rt);
         drop(self.mail);
         drop(self.comings);
         drop(self.event_loop);
