@@ -147,7 +147,7 @@ def case_accept_fails(room):
         limit_now(run, resource.RLIMIT_NOFILE, 3)
         with client(port) as second, client(port) as third:
             time.sleep(0.2)
-            operator.sendall(b"GET /ready HTTP/1.1\r\nHost: g\r\n\r\n")
+            operator.sendall(b"GET /ready HTTP/1.1\r\nHost: localhost\r\n\r\n")
             expect("what an operator is told", read_to(operator, 12), b"HTTP/1.1 200")
             # longer than an accept that fails otherwise is tried again
             time.sleep(4)
@@ -182,8 +182,8 @@ def case_thousand_silent(room):
 
 def case_few_descriptors(room):
     """without --log a line tells where fewer descriptors are allowed than may be needed, and nothing else is told"""
-    few = "connect_gateway: descriptors: 2879 are allowed, and 2880 are always enough: ulimit -n, or LimitNOFILE in a unit\n"
-    for allowed, wanted in ((2_879, few), (2_880, "")):
+    few = "connect_gateway: descriptors: 3007 are allowed, and 3008 are always enough: ulimit -n, or LimitNOFILE in a unit\n"
+    for allowed, wanted in ((3_007, few), (3_008, "")):
         limit = (allowed, allowed)
         run, port = room.serve(b"[]", 2, streams=1, limit=lambda: resource.setrlimit(resource.RLIMIT_NOFILE, limit))
         client(port).close()

@@ -337,14 +337,14 @@ def case_log_of_the_start(room):
 def case_log_of_few_descriptors(room):
     """the log warns where fewer descriptors are allowed than the workers may need"""
     run, port = room.serve(b"[]", workers=2, streams=1, log=True,
-                           limit=lambda: resource.setrlimit(resource.RLIMIT_NOFILE, (2_879, 2_879)))
+                           limit=lambda: resource.setrlimit(resource.RLIMIT_NOFILE, (3_007, 3_007)))
     warned = [text for kind, text in remarks(listens(run.stderr)) if kind == "warning"]
     expect("what is told", warned, [
-        "descriptors: 2879 are allowed, and 2880 are always enough: ulimit -n, or LimitNOFILE in a unit"])
+        "descriptors: 3007 are allowed, and 3008 are always enough: ulimit -n, or LimitNOFILE in a unit"])
     client(port).close()
     expect("the status", (run.communicate(timeout=WAIT), run.returncode)[1], 0)
     run, port = room.serve(b"[]", workers=2, streams=1, log=True,
-                           limit=lambda: resource.setrlimit(resource.RLIMIT_NOFILE, (2_880, 2_880)))
+                           limit=lambda: resource.setrlimit(resource.RLIMIT_NOFILE, (3_008, 3_008)))
     expect("with enough", remarks(listens(run.stderr)), [("listen", f"127.0.0.1:{port}")])
     client(port).close()
     expect("the status", (run.communicate(timeout=WAIT), run.returncode)[1], 0)

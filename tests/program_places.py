@@ -103,7 +103,10 @@ def case_places_and_operators(room):
         for stream in waiting[1:]:
             is_reset("one that has waited for a second", stream)
         expect("when nobody waits", asks(where, "/ready"), (503, "full"))
-        expect("those that were closed then", figures(where)[("connect_gateway_streams_closed_total",)], 9)
+        end = time.monotonic() + WAIT
+        while figures(where)[("connect_gateway_streams_closed_total",)] != 9:
+            expect("whether they are told as closed soon", time.monotonic() < end, True)
+            time.sleep(0.1)
         give_up(holders[1])
         end = time.monotonic() + WAIT
         while asks(where, "/ready") != (200, "ready"):

@@ -28,9 +28,9 @@ use std::time::{Duration, Instant};
 /// A second, in milliseconds.
 const SECOND: u64 = 1_000;
 
-/// A worker needs so many descriptors at most: for its connections, for streams that linger and for backends, and for
-/// itself.
-const DESCRIPTORS: u64 = 1_160;
+/// A worker needs so many descriptors at most: for its connections, for streams that linger, for backends that are asked
+/// and for those that are to close first, and for itself.
+const DESCRIPTORS: u64 = 1_224;
 
 /// So many more are enough for the program: for streams that wait for a place, for names that are looked up, four each,
 /// and for itself.
