@@ -1,7 +1,7 @@
 ghost use Rattle.gateway_model.specs.Known.{IsKnown, is_whole};
 ghost use Rattle.gateway_theory.specs.Told.{TellsTook};
 ghost use Rattle.gateway_theory.specs.Serving.{CountsCalls, Keeps, KeepsBut, Breaks, HasFewCalls, TakesOnly, TellsStep};
-ghost use Rattle.gateway_theory.specs.Gateway.{conn_count, is_ended, is_open_conn, jobs_of, kept_record, next_reply, open_count, outs_of, untaken_of, with_jobs};
+ghost use Rattle.gateway_theory.specs.Gateway.{conn_count, is_open_conn, jobs_of, kept_record, next_reply, open_count, outs_of, untaken_of, with_jobs};
 ghost use Rattle.gateway_theory.specs.Values.{shown};
 ghost use Rattle.std.specs.Prelude.{◌≡◌, ◌==◌, ◌+◌, ◌<◌, ◌≤◌, ◌^◌, ◌∷◌, ◌++◌, [], Err, IfErr, IfOk, IfSome, List, MatchResult, None, OnErr, OnOk, Some, false, true, length, option_map, option_to_list};
 ghost use Rattle.gateway_model.specs.declared.id.CallId.{CallId};
@@ -278,8 +278,8 @@ impl<H: ReplyHook + Drop, L: Ledger, J: Ledger, K: Ledger> Book<H, L, J, K> {
             ≡ option_to_list (option_map (λ r. r.entry) (reply_given result)) ++ untaken_of conn self.new.core }
         ensures its { IfSome (reply_given result) (λ r. r.id ≡ next_reply conn self.old.core) }
         ensures none { reply_given result ≡ None → untaken_of conn self.old.core ≡ [] }
-        ensures pending { result ≡ NextReply.Pending → is_ended conn self.new.core ≡ false }
-        ensures over { result ≡ NextReply.Over → is_ended conn self.new.core ≡ true }
+        ensures pending { result ≡ NextReply.Pending → (shown self.new.core).is_ended conn ≡ false }
+        ensures over { result ≡ NextReply.Over → (shown self.new.core).is_ended conn ≡ true }
         ensures only { TakesOnly conn self.old.core self.new.core }
         ensures counts { self.new ≡ record self.old { core = self.new.core } }
     {

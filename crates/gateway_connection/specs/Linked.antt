@@ -11,8 +11,8 @@ use Rattle.gateway_replies.specs.Contexts.{ContextsValue, Ended, LifeValue, Time
 use Rattle.gateway_theory.specs.declared.trigger.Trigger.{Trigger}
 use Rattle.gateway_theory.specs.declared.trigger.Trigger.TheVariants.{Reached, HungUp, Drained}
 use Rattle.gateway_theory.specs.Begins.{begun_live, first_out}
-use Rattle.gateway_theory.specs.Values.{KeptValue, Live, call_state}
-use Rattle.gateway_theory.specs.Step.{Step, deadlines_in, ended_by, is_last_answer, kept}
+use Rattle.gateway_theory.specs.Values.{KeptValue, Live, call_state, deadlines_in}
+use Rattle.gateway_theory.specs.Step.{Step, ended_by, is_last_answer, kept}
 use Rattle.gateway_connection.specs.declared.arriving.Arriving.{Arriving}
 use Rattle.gateway_connection.specs.declared.arriving.Arriving.TheVariants.{Answered, Begins}
 

@@ -20,7 +20,7 @@ pub use Rattle.gateway_model.specs.Past.{call_id, is_due, least_of}
 pub use Rattle.gateway_model.specs.declared.id.CallId.{CallId}
 pub use Rattle.gateway_replies.specs.Contexts.{ContextsValue, LifeValue, contexts_value, is_over, has_due, has_ended, others, told, Ended, TimedBranch, by_drain, ends_of, is_peer, opened}
 pub use Rattle.gateway_replies.specs.Hooks.{HookedContexts, KeepsHooks, BringsHooks, Stocks, stock_in, none_hooked}
-pub use Rattle.gateway_theory.specs.Gateway.{one_if_open, untaken_of, jobs_of, next_reply, call_in, deadline_ahead, ends_calls, with_jobs}
+pub use Rattle.gateway_theory.specs.Gateway.{one_if_open, untaken_of, jobs_of, next_reply, call_in, with_jobs}
 pub use Rattle.gateway_theory.specs.Held.{is_gone, ended, TakesReply, closed_held, CallsEnd, broke, new_held, HangsUp, Holds, TakesResult, TakesStarved, left_of}
 pub use Rattle.gateway_theory.specs.Replies.{ReplyValue}
 pub use Rattle.gateway_theory.specs.Serving.{IsServing, Keeps, Breaks, CountsCalls, KeepsBut, NotListening, TakesOnly, TakesSome, TellsStep, WouldBegin, IsHeld}

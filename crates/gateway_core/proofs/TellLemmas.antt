@@ -1,6 +1,6 @@
 -- What a moment and the drain make of the gateway.
 use Rattle.gateway_core.proofs.Names.{◌≡◌, ℕ, ◌≤◌, refl, sym, ap, ◌∙◌, Option, Some, None, Bool, true, false, subst, arith, list_any, ◌^◌, same_Some, HeldConnection, ended, IsServing, Broadcast, Drains, MayEnd, Reaches, drains_serving, open_same, reaches_serving, Tally, ContextsValue, LifeValue, has_due, none_over, Shared, own_none, due_ends, held_same, AllEnd, AreFit, Conns, IsToldOnly, IsWhole, OneBreaks, gateway_of, held_at}
-use Rattle.gateway_theory.specs.Step.{moment_after}
+use Rattle.gateway_theory.specs.Values.{moment_after}
 use Rattle.gateway_theory.specs.declared.trigger.Trigger.{Trigger}
 use Rattle.gateway_theory.specs.declared.trigger.Trigger.TheVariants.{Reached, Drained}
 use Rattle.gateway_core.proofs.FitLemmas.{tied_at}

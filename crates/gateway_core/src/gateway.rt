@@ -1,7 +1,7 @@
 ghost use Rattle.std.specs.Prelude.{◌≡◌, ◌==◌, ◌∷◌, ◌++◌, ◌<◌, ◌≤◌, [], Err, IfOk, IfErr, IfSome, None, OnErr, OnOk, Some, false, not, ℕ, List, length, option_map, option_to_list, true, is_some, slice_get};
 ghost use Rattle.connect_codec.specs.declared.answer.Outcome.{Outcome as Outcomes};
-ghost use Rattle.gateway_theory.specs.Gateway.{conn_count, deadline_ahead, ends_calls, is_ended, is_idle_conn, jobs_of, next_reply, open_count, untaken_of, with_jobs};
-ghost use Rattle.gateway_theory.specs.Values.{shown};
+ghost use Rattle.gateway_theory.specs.Gateway.{conn_count, jobs_of, next_reply, open_count, untaken_of, with_jobs};
+ghost use Rattle.gateway_theory.specs.Values.{moment_after, shown};
 ghost use Rattle.gateway_theory.specs.Serving.{TakesSome, WouldBegin, Breaks, CountsCalls, HasFewCalls, IsServing, NotListening, Keeps, KeepsBut, TakesOnly, TellsStep};
 ghost use Rattle.gateway_theory.specs.Refused.{RefusesOpening};
 ghost use Rattle.gateway_theory.specs.Tally.{tally_of};
@@ -295,9 +295,10 @@ impl<H: ReplyHook + Drop> Core<H> {
 
     /// The least deadline of the undecided calls, and of their branches that are out.
     pub fn next_deadline(&self) -> Option<u64>
-        ensures least { result ≡ deadline_ahead self.now }
-        // a moment ends a call exactly if it has reached this
-        ensures quiet { (moment : ℕ) → ends_calls moment self.now ≡ is_due moment result }
+        ensures least { result ≡ (shown self.now).deadline }
+        // a moment that comes next decides a call exactly if this is reached then
+        ensures quiet { (moment : ℕ)
+            → (shown self.now).ends_calls moment ≡ is_due (moment_after self.now.moment moment) result }
     {
         self.shared.contexts.next_deadline()
     }
@@ -312,7 +313,7 @@ impl<H: ReplyHook + Drop> Core<H> {
     /// Whether the connection no longer brings requests or replies: it is unknown, closed or broken, or its stream has
     /// ended and no call of it is undecided.
     pub fn ended(&self, conn: ConnId) -> bool
-        ensures { result ≡ is_ended conn self.now }
+        ensures { result ≡ (shown self.now).is_ended conn }
     {
         match self.conns.get(&conn.number()) {
             Some(held) => held.is_closed() || held.is_ended(),
@@ -333,7 +334,7 @@ impl<H: ReplyHook + Drop> Core<H> {
     /// Whether each request of the connection has its reply, so that none of its calls is undecided. True where there
     /// is no such connection.
     pub fn is_idle(&self, conn: ConnId) -> bool
-        ensures { result ≡ is_idle_conn conn self.now }
+        ensures { result ≡ (shown self.now).is_idle conn }
     {
         match self.conns.get(&conn.number()) {
             Some(held) => held.is_closed() || held.is_idle(),

@@ -3,8 +3,9 @@ use Rattle.std.specs.Prelude.{◌≡◌, ℕ, ◌≤◌, Bool, true, false, ◌&
 use Rattle.gateway_model.specs.declared.entry.ReplyEntry.{ReplyEntry}
 use Rattle.gateway_model.specs.declared.id.CallId.{CallId}
 use Rattle.gateway_model.specs.CallRecord.{CallRecord}
+use Rattle.gateway_model.specs.Ahead.{BringsNoMore, are_answered, ends_calls, least_deadline}
 use Rattle.gateway_model.specs.Breaks.{BreakAsTheyMay, InOrder, by_events}
-use Rattle.gateway_model.specs.Events.{is_open}
+use Rattle.gateway_model.specs.Events.{connections, is_open}
 use Rattle.gateway_model.specs.Job.{JobValue}
 use Rattle.gateway_model.specs.Occurrence.{Occurrence}
 use Rattle.gateway_model.specs.Past.{ArrivedCall, Past, branch_deadlines, call, can_be_decided, is_broken, marked, outs}
@@ -26,6 +27,12 @@ pub record Shown : Type 0 where
   pub outs : CallId → ℕ
   -- the record so far of a call that can be decided
   pub recorded : CallId → Option CallRecord
+  -- whether each request of a connection has its reply, and whether it brings no more requests or replies: both hold of one that is not open
+  pub is_idle : ℕ → Bool
+  pub is_ended : ℕ → Bool
+  -- the least deadline of the calls that can be decided and of their branches that are out, and whether a moment that comes next decides a call
+  pub deadline : Option ℕ
+  pub ends_calls : ℕ → Bool
 
 -- the connection is open, and is not broken
 abbrev pub is_whole : ℕ → Shown → Bool
@@ -56,5 +63,13 @@ pub record IsKnown (s : Shown) (h : History) (os : List Occurrence) : Type 0 whe
   pub outs_are : (id : CallId) → s.outs id ≡ outs id (marked (occurrences lived))
   pub records_are : (id : CallId) → s.recorded id ≡ record_now id (marked (occurrences lived))
   pub records : (id : CallId) (r : CallRecord) → s.recorded id ≡ Some r → (is_lawful r ≡ true) × (is_decided r ≡ false)
+  -- an open connection is idle where its requests are answered; it has ended where it broke, or where it is idle and its stream brings no more
+  pub idle_are : (c : ℕ) → s.is_open c ≡ true → s.is_idle c ≡ are_answered c (marked (occurrences lived))
+  pub ended_are : (c : ℕ) → is_whole c s ≡ true → (over : Bool) × BringsNoMore h.opened c h.events over × (s.is_ended c ≡ (over && s.is_idle c))
+  pub idle_gone : (c : ℕ) → s.is_open c ≡ false → s.is_idle c ≡ true
+  pub ended_gone : (c : ℕ) → is_whole c s ≡ false → s.is_ended c ≡ true
+  -- the deadline is the least of the definitions, and a moment decides a call where they say so
+  pub deadline_is : s.deadline ≡ least_deadline (connections h.opened h.events) (marked (occurrences lived))
+  pub ends_are : (m : ℕ) → s.ends_calls m ≡ ends_calls (connections h.opened h.events) m (marked (occurrences lived))
   -- no call, of whatever connection, has more branches out than its limit
   pub limit : (id : CallId) (a : ArrivedCall) → call id (marked os) ≡ Some a → s.outs id ≤ a.plan.limit

@@ -17,5 +17,6 @@ pub mod History
 pub mod Concerns
 pub mod Breaks
 pub mod Run
+pub mod Ahead
 pub mod Known
 pub mod Headline

@@ -1,6 +1,6 @@
 -- All connections with their streams, and what they stand for by the events.
 use Rattle.std.specs.Prelude.{◌≡◌, ℕ, ◌+◌, ◌<◌, ◌≤◌, ◌&&◌, Bool, true, false, not, List, [], ◌∷◌, ◌++◌, nat_lt, length, map, reverse}
-use Rattle.http_pieces.specs.Reader.{HasRead, Partial, ReaderValue, Reading, Stopped, Waiting, reader_value}
+use Rattle.http_pieces.specs.Reader.{HasRead, ReaderValue, Reading, Stopped, Waiting}
 use Rattle.http_pieces.specs.Request.{HttpRequest}
 use Rattle.http_pieces.specs.Requests.{Requests, StreamEnd}
 use Rattle.call_plan.specs.Plan.{PlanRecord}
@@ -16,15 +16,7 @@ use Rattle.gateway_model.specs.Own.{without_breaks}
 use Rattle.gateway_model.specs.Starts.{Placed, occurrences}
 use Rattle.gateway_theory.specs.Arrivals.{calls_arrived}
 use Rattle.gateway_theory.specs.Connection.{AllStand, Now, next}
-use Rattle.gateway_theory.specs.Values.{ConnectionValue, is_open_value, shown_of}
-
--- the stream of a connection: how far it was read, and whether its peer hung up
-pub record StreamValue : Type 0 where
-  pub reader : ReaderValue
-  pub hung_up : Bool
-
-abbrev pub new_stream : StreamValue
-new_stream = record { reader = reader_value 0 (Partial []); hung_up = false }
+use Rattle.gateway_theory.specs.Values.{ConnectionValue, StreamValue, is_open_value, shown_of}
 
 -- a refusal counts as a request
 abbrev pub refusals : Reading → ℕ
@@ -75,7 +67,7 @@ pub record CoreValue : Type 0 where
   pub waiting : List JobValue
 
 abbrev pub shown : CoreValue → Shown
-shown v = shown_of v.opened v.conns v.waiting
+shown v = shown_of v.now.moment v.opened v.conns v.streams v.waiting
 
 abbrev pub HasConns : CoreValue → List ℕ → Before → Type 0
 HasConns v opened events = HasStreams opened events v.opened v.conns v.streams

@@ -9,8 +9,8 @@ use Rattle.gateway_model.specs.declared.call_event.CallEvent.TheVariants.{HungUp
 use Rattle.gateway_theory.specs.declared.trigger.Trigger.{Trigger}
 use Rattle.gateway_theory.specs.declared.trigger.Trigger.TheVariants.{Reached, HungUp, Drained}
 use Rattle.gateway_model.specs.Past.{ArrivedCall, due_by, is_call}
-use Rattle.gateway_theory.specs.Step.{Step, deadlines_in, kept, ended_by}
-use Rattle.gateway_theory.specs.Values.{CallState, Live, call_state, KeptValue}
+use Rattle.gateway_theory.specs.Step.{Step, kept, ended_by}
+use Rattle.gateway_theory.specs.Values.{CallState, Live, call_state, deadlines_in, KeptValue}
 use Rattle.gateway_theory.specs.Replies.{ReplyValue}
 use Rattle.gateway_theory.specs.Store.{kept_at, given_up}
 

@@ -1,25 +1,18 @@
 -- The gateway as the code keeps it, and what can be asked of it.
-use Rattle.std.specs.List.{count_by, list_any, sum_by}
+use Rattle.std.specs.List.{count_by, sum_by}
 use Rattle.std.specs.Map.{values_of}
-use Rattle.std.specs.Option.{option_map_or}
-use Rattle.std.specs.Prelude.{ℕ, Bool, true, ◌||◌, ◌&&◌, not, is_none, if◌then◌else◌, List, length, map, Option, None, Some, option_and_then, option_map}
-use Rattle.http_pieces.specs.Reader.{is_over}
+use Rattle.std.specs.Prelude.{ℕ, Bool, if◌then◌else◌, List, length, Option, None, Some, option_and_then, option_map}
 use Rattle.gateway_model.specs.CallRecord.{CallRecord}
 use Rattle.gateway_model.specs.Job.{JobValue}
-use Rattle.gateway_model.specs.Past.{call_id, least_of}
+use Rattle.gateway_model.specs.Past.{call_id}
 use Rattle.gateway_model.specs.Queue.{record_of}
 use Rattle.gateway_model.specs.declared.entry.ReplyEntry.{ReplyEntry}
 use Rattle.gateway_model.specs.declared.id.CallId.{CallId}
-use Rattle.gateway_theory.specs.Least.{ends_any, least_deadline}
-use Rattle.gateway_theory.specs.Values.{CallState, Live, is_broken_value, is_open_value, untaken_value, HeldConnection, GatewayValue, conn_of, connection}
+use Rattle.gateway_theory.specs.Values.{CallState, Live, is_broken_value, is_open_value, untaken_value, HeldConnection, GatewayValue, conn_of, connection, stream_of}
 use Rattle.gateway_theory.specs.Connection.{now_of}
-use Rattle.gateway_theory.specs.Core.{CoreValue, StreamValue, new_stream}
-use Rattle.gateway_theory.specs.Held.{stream_in}
+use Rattle.gateway_theory.specs.Core.{CoreValue}
 
 -- ---- its connections
-
-abbrev pub stream_of : Option HeldConnection → StreamValue
-stream_of o = option_map_or stream_in o new_stream
 
 -- the gateway by its connections as values
 abbrev pub core_of : GatewayValue → CoreValue
@@ -58,25 +51,6 @@ untaken_of c v = untaken_value v.opened c (connection c v)
 abbrev pub next_reply : ℕ → GatewayValue → CallId
 next_reply c v = call_id c (connection c v).taken
 
--- the connection brings nothing more: its stream ended, or its peer hung up
-abbrev pub is_done : HeldConnection → Bool
-is_done k = is_over k.reader.reading || k.hung_up
-
--- each of these is there
-abbrev pub are_all_there : List (Option ReplyEntry) → Bool
-are_all_there slots = not (list_any is_none slots)
-
--- each request of the connection has its reply; so it is where there is no such connection
-abbrev pub is_idle_conn : ℕ → GatewayValue → Bool
-is_idle_conn c v = option_map_or (λ (k : HeldConnection). are_all_there k.slots) (open_of c v) true
-
-abbrev pub has_ended : HeldConnection → Bool
-has_ended k = k.broken || (is_done k && are_all_there k.slots)
-
--- the connection is not open, or is broken, or brings nothing more and no call of it is undecided
-abbrev pub is_ended : ℕ → GatewayValue → Bool
-is_ended c v = option_map_or has_ended (open_of c v) true
-
 -- what is kept of the call
 abbrev pub call_in : CallId → GatewayValue → CallState
 call_in id v = (connection id.conn v).calls id.request
@@ -106,14 +80,6 @@ jobs_of v = v.jobs
 -- the same gateway, in which these jobs wait
 abbrev pub with_jobs : List JobValue → GatewayValue → GatewayValue
 with_jobs jobs v = record v { jobs = jobs }
-
--- the least deadline of the calls that can be decided, and of their branches that are out
-abbrev pub deadline_ahead : GatewayValue → Option ℕ
-deadline_ahead v = least_of (map (λ (k : HeldConnection). least_deadline k.calls) (values_of v.conns))
-
--- the moment ends a call
-abbrev pub ends_calls : ℕ → GatewayValue → Bool
-ends_calls moment v = list_any (λ (k : HeldConnection). ends_any moment k.calls) (values_of v.conns)
 
 -- the record so far of a call that can be decided, as it is kept
 abbrev pub kept_record : CallId → GatewayValue → Option CallRecord

@@ -27,7 +27,7 @@ use Rattle.gateway_theory.specs.declared.fault.Took.{Took}
 use Rattle.gateway_theory.specs.declared.trigger.Trigger.{Trigger}
 use Rattle.gateway_theory.specs.declared.trigger.Trigger.TheVariants.{HungUp}
 use Rattle.gateway_theory.specs.Connection.{filled}
-use Rattle.gateway_theory.specs.Core.{StreamValue, is_waiting, refusals}
+use Rattle.gateway_theory.specs.Core.{is_waiting, refusals}
 
 -- nothing of a stream was read
 abbrev pub new_reader : ReaderValue
@@ -36,12 +36,6 @@ new_reader = reader_value 0 (Partial [])
 -- one that has just opened
 abbrev pub new_held : ℕ → HeldConnection
 new_held number = held_connection number 0 [] [] false false false new_reader
-
--- ---- what it is, as a value of its own
-
--- its stream
-abbrev pub stream_in : HeldConnection → StreamValue
-stream_in k = record { reader = k.reader; hung_up = k.hung_up }
 
 -- ---- what is asked of it
 

@@ -1,15 +1,14 @@
 -- The least deadline that a call or a branch still has, and whether a moment ends a call.
-use Rattle.std.specs.Prelude.{ℕ, Bool, List, map, Option, is_some, option_and_then}
+use Rattle.std.specs.Prelude.{ℕ, Bool, List, map, Option, is_some}
 use Rattle.std.specs.List.{list_any}
-use Rattle.gateway_model.specs.Past.{least_of, smaller}
+use Rattle.gateway_model.specs.Past.{least_of}
 use Rattle.gateway_theory.specs.declared.trigger.Trigger.TheVariants.{Reached}
 use Rattle.gateway_theory.specs.Ends.{ended_call}
-use Rattle.gateway_theory.specs.Values.{KeptValue, Live}
-use Rattle.gateway_theory.specs.Step.{deadlines_in}
+use Rattle.gateway_theory.specs.Values.{KeptValue, call_deadline}
 
--- the least deadline of a call that can be decided: its own, or that of a branch of it which is out
+-- the least deadline of a call that is kept
 abbrev pub deadline_of : KeptValue → Option ℕ
-deadline_of k = option_and_then (λ (l : Live). smaller l.asked.deadline (least_of (deadlines_in k.call.out l.deadlines))) k.call.live
+deadline_of k = call_deadline k.call
 
 -- that of all calls; none where none has one
 abbrev pub least_deadline : List KeptValue → Option ℕ

@@ -5,7 +5,7 @@ use Rattle.connect_codec.specs.declared.answer.Outcome.TheVariants.{Answer, Fail
 use Rattle.gateway_model.specs.declared.id.CallId.{CallId}
 use Rattle.gateway_model.specs.Job.{JobValue}
 use Rattle.gateway_theory.specs.Task.{job_at}
-use Rattle.gateway_theory.specs.Values.{TaskValue, Live, CallState, call_state}
+use Rattle.gateway_theory.specs.Values.{TaskValue, Live, CallState, call_state, deadlines_in, moment_after}
 use Rattle.gateway_model.specs.Occurrence.{Occurrence, HangUp, Moment, Result, Drain, Closing, Break}
 use Rattle.gateway_model.specs.declared.call_event.CallEvent.{CallEvent}
 use Rattle.gateway_model.specs.declared.call_event.CallEvent.TheVariants.{Answer as Answered, Failed, HungUp, Drained}
@@ -83,16 +83,6 @@ counted moment i (Answer body) l out =
 abbrev pub result_on : ℕ → ℕ → Outcome → List Bool → Option Live → Step
 result_on moment i outcome out None = kept (call_state out None)
 result_on moment i outcome out (Some l) = counted moment i outcome l out
-
--- the moment after an occurrence
-abbrev pub moment_after : ℕ → ℕ → ℕ
-moment_after moment m = max moment (min m (2 ^ 62))
-
--- of these deadlines of branches those of which the branch is out
-abbrev pub deadlines_in : List Bool → List (Option ℕ) → List (Option ℕ)
-deadlines_in [] ds = []
-deadlines_in (b ∷ out) [] = None ∷ deadlines_in out []
-deadlines_in (b ∷ out) (d ∷ ds) = (if b then d else None) ∷ deadlines_in out ds
 
 -- what ends a call at a moment, a hang-up or the drain, where the branches that are out have these deadlines
 abbrev pub ending : ℕ → CallId → Occurrence → ArrivedCall → List (Option ℕ) → Option CallEvent

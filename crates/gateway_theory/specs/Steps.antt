@@ -12,7 +12,6 @@ use Rattle.gateway_model.specs.declared.id.CallId.{CallId}
 use Rattle.gateway_model.specs.declared.seen.Seen.{Seen}
 use Rattle.gateway_model.specs.declared.seen.Seen.TheVariants.{Unknown}
 use Rattle.gateway_theory.specs.Replies.{ReplyValue}
-use Rattle.gateway_theory.specs.Step.{moment_after}
 use Rattle.gateway_theory.specs.Tally.{tally_of}
 use Rattle.gateway_theory.specs.Task.{HandedJob}
 use Rattle.gateway_theory.specs.declared.fault.StepFault.{StepFault}
@@ -21,7 +20,7 @@ use Rattle.gateway_theory.specs.declared.fault.Took.{Took}
 use Rattle.gateway_theory.specs.declared.trigger.Trigger.{Trigger}
 use Rattle.gateway_theory.specs.declared.trigger.Trigger.TheVariants.{Drained, Reached}
 use Rattle.gateway_theory.specs.Gateway.{call_in, calls_kept, one_if_open, open_count}
-use Rattle.gateway_theory.specs.Values.{GatewayValue, conn_of, gateway_value, HeldConnection}
+use Rattle.gateway_theory.specs.Values.{GatewayValue, conn_of, gateway_value, HeldConnection, moment_after}
 use Rattle.gateway_theory.specs.Held.{CallsEnd, HangsUp, TakesBytes, TakesReply, TakesResult, TakesStarved, closed_held, left_of, new_held}
 use Rattle.gateway_theory.specs.Serving.{Breaks}
 

@@ -1,15 +1,15 @@
 -- What the gateway holds, and what is seen of it.
 use Rattle.std.specs.BTreeMap.{is_at}
-use Rattle.std.specs.List.{count_by}
+use Rattle.std.specs.List.{count_by, list_any, range_with_len}
 use Rattle.std.specs.Map.{lookup}
 use Rattle.std.specs.Option.{option_map_or}
 use Rattle.std.specs.Ordering.{nat_cmp}
-use Rattle.std.specs.Prelude.{ℕ, Bool, false, ◌&&◌, not, if◌then◌else◌, nat_lt, List, [], ◌∷◌, Option, None, option_map}
-use Rattle.http_pieces.specs.Reader.{ReaderValue}
+use Rattle.std.specs.Prelude.{ℕ, ◌+◌, ◌^◌, max, min, Bool, false, ◌&&◌, ◌||◌, not, if◌then◌else◌, nat_lt, is_none, List, [], ◌∷◌, length, map, Option, None, option_and_then, option_map}
+use Rattle.http_pieces.specs.Reader.{Partial, ReaderValue, is_over, reader_value}
 use Rattle.call_plan.specs.Plan.{PlanRecord}
 use Rattle.gateway_model.specs.Job.{JobValue}
 use Rattle.gateway_model.specs.Known.{Shown}
-use Rattle.gateway_model.specs.Past.{ArrivedCall, call_id, is_call}
+use Rattle.gateway_model.specs.Past.{ArrivedCall, call_id, is_call, is_due, least_of, smaller}
 use Rattle.gateway_model.specs.Queue.{front, record_of}
 use Rattle.gateway_model.specs.declared.call_event.CallEvent.{CallEvent}
 use Rattle.gateway_model.specs.declared.entry.ReplyEntry.{ReplyEntry}
@@ -53,6 +53,18 @@ abbrev pub call_at : CallId → List KeptValue → CallState
 call_at id [] = gone
 call_at id (k ∷ calls) = if is_call k.id id then k.call else call_at id calls
 
+-- ---- deadlines
+
+-- of these deadlines of branches those of which the branch is out
+abbrev pub deadlines_in : List Bool → List (Option ℕ) → List (Option ℕ)
+deadlines_in [] ds = []
+deadlines_in (b ∷ out) [] = None ∷ deadlines_in out []
+deadlines_in (b ∷ out) (d ∷ ds) = (if b then d else None) ∷ deadlines_in out ds
+
+-- the least deadline of a call that can be decided: its own, or that of a branch of it which is out
+abbrev pub call_deadline : CallState → Option ℕ
+call_deadline c = option_and_then (λ (l : Live). smaller l.asked.deadline (least_of (deadlines_in c.out l.deadlines))) c.live
+
 -- ---- a connection
 
 -- a connection as the code holds it
@@ -82,6 +94,20 @@ held_connection number taken slots calls broken closed hung_up reader = record {
   hung_up = hung_up;
   reader = reader;
 }
+
+-- its stream: how far it was read, and whether its peer hung up
+pub record StreamValue : Type 0 where
+  pub reader : ReaderValue
+  pub hung_up : Bool
+
+abbrev pub new_stream : StreamValue
+new_stream = record { reader = reader_value 0 (Partial []); hung_up = false }
+
+abbrev pub stream_in : HeldConnection → StreamValue
+stream_in k = record { reader = k.reader; hung_up = k.hung_up }
+
+abbrev pub stream_of : Option HeldConnection → StreamValue
+stream_of o = option_map_or stream_in o new_stream
 
 -- a connection by its calls: what an occurrence steps on (see Connection)
 pub record ConnectionValue : Type 0 where
@@ -164,17 +190,49 @@ is_broken_value count c v = is_open_value count c v && v.broken
 abbrev pub untaken_value : ℕ → ℕ → ConnectionValue → List ReplyEntry
 untaken_value count c v = if is_open_value count c v then front v.slots else []
 
--- what is seen of them, where so many were opened
-abbrev pub shown_of : ℕ → (ℕ → ConnectionValue) → List JobValue → Shown
-shown_of opened conns waiting = record {
+-- each of these is there
+abbrev pub are_all_there : List (Option ReplyEntry) → Bool
+are_all_there slots = not (list_any is_none slots)
+
+-- each request of it has its reply, or it is not open
+abbrev pub is_idle_value : ℕ → ℕ → ConnectionValue → Bool
+is_idle_value count c v = not (is_open_value count c v) || are_all_there v.slots
+
+-- its stream brings nothing more: its requests have ended, or its peer hung up
+abbrev pub is_done : StreamValue → Bool
+is_done s = is_over s.reader.reading || s.hung_up
+
+-- it is not open, or broken, or its stream brings nothing more and each request has its reply
+abbrev pub is_ended_value : ℕ → ℕ → ConnectionValue → StreamValue → Bool
+is_ended_value count c v s = not (is_open_value count c v) || (v.broken || (is_done s && are_all_there v.slots))
+
+-- the least deadline of its calls
+abbrev pub deadline_in : ConnectionValue → Option ℕ
+deadline_in v = least_of (map (λ k. call_deadline (v.calls k)) (range_with_len 0 (v.taken + length v.slots)))
+
+-- that of all of them, where so many were opened
+abbrev pub deadline_among : ℕ → (ℕ → ConnectionValue) → Option ℕ
+deadline_among opened conns = least_of (map (λ c. deadline_in (conns c)) (range_with_len 0 opened))
+
+-- the moment after one that comes, which never goes back
+abbrev pub moment_after : ℕ → ℕ → ℕ
+moment_after moment m = max moment (min m (2 ^ 62))
+
+-- what is seen of them at this moment, where so many were opened
+abbrev pub shown_of : ℕ → ℕ → (ℕ → ConnectionValue) → (ℕ → StreamValue) → List JobValue → Shown
+shown_of moment opened conns streams waiting = record {
   is_open = λ c. is_open_value opened c (conns c);
   is_broken = λ c. is_broken_value opened c (conns c);
   untaken = λ c. untaken_value opened c (conns c);
   waiting = waiting;
   outs = λ id. count_by (λ b. b) ((conns id.conn).calls id.request).out;
   recorded = λ id. option_map (λ (l : Live). record_of l.asked l.deadlines l.events) ((conns id.conn).calls id.request).live;
+  is_idle = λ c. is_idle_value opened c (conns c);
+  is_ended = λ c. is_ended_value opened c (conns c) (streams c);
+  deadline = deadline_among opened conns;
+  ends_calls = λ m. is_due (moment_after moment m) (deadline_among opened conns);
 }
 
 -- what is seen of the gateway
 abbrev pub shown : GatewayValue → Shown
-shown v = shown_of v.opened (λ c. connection c v) v.jobs
+shown v = shown_of v.moment v.opened (λ c. connection c v) (λ c. stream_of (conn_of c v)) v.jobs

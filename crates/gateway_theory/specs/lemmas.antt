@@ -23,6 +23,7 @@ pub mod StoreLemmas
 pub mod Adding
 pub mod ConnectionSteps
 pub mod Events
+pub mod Ahead
 pub mod Knowing
 pub mod Standing
 pub mod ServedLemmas

@@ -31,10 +31,10 @@ pub use Rattle.gateway_theory.specs.Ends.{AreApart, ended_kept, ended_call, repl
 pub use Rattle.gateway_theory.specs.Held.{Holds, next_held, broken_held, result_in, replied, hears, coming_of, hung_held, ended_held, Forgets, back_held, forgotten, lost_held, stays, stepped_held, TakesReply, ReadsOn, arriving_in, read_held, unknown, EndsIn, entered_held, HasBrought, MayGive, broke, came, read, unread, TakesStarved, late, lost, settled, settled_held, closed_held, dropped}
 pub use Rattle.gateway_theory.specs.Replies.{ReplyValue, reply_with}
 pub use Rattle.gateway_theory.specs.Results.{stepped_kept, back_kept, is_spent}
-pub use Rattle.gateway_theory.specs.Step.{deadlines_in, Step, has_out, result_on, step_to, deadlines_next, next_out, rest_of, first_of, is_last_answer, ended_by}
+pub use Rattle.gateway_theory.specs.Step.{Step, has_out, result_on, step_to, deadlines_next, next_out, rest_of, first_of, is_last_answer, ended_by}
 pub use Rattle.gateway_theory.specs.Store.{kept_at, waiting, given_up, no_call, waiting_in, IsFound}
 pub use Rattle.gateway_theory.specs.Task.{job_at, task_of, HandedJob}
-pub use Rattle.gateway_theory.specs.Values.{HeldConnection, KeptValue, Live, TaskValue, call_at, CallState, gone, held_connection}
+pub use Rattle.gateway_theory.specs.Values.{HeldConnection, KeptValue, Live, TaskValue, call_at, CallState, deadlines_in, gone, held_connection}
 pub use Rattle.gateway_theory.specs.declared.trigger.Trigger.{Trigger}
 pub use Rattle.gateway_theory.specs.declared.trigger.Trigger.TheVariants.{HungUp, Reached, Drained}
 pub use Rattle.gateway_theory.specs.lemmas.Cases.{err_if, all_stay, or_true, sym_eqb, or_false, or_none}

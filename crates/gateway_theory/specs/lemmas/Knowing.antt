@@ -1,6 +1,6 @@
 -- What is known of the gateway, by the events that it stands for.
-use Rattle.std.specs.Prelude.{◌≡◌, ◌≤◌, ◌<◌, ◌∷◌, ◌++◌, ◌&&◌, if◌then◌else◌}
-use Rattle.gateway_theory.specs.lemmas.Names.{ℕ, zero, suc, Bool, true, false, List, [], length, Option, None, Some, refl, sym, ap, ◌∙◌, subst, arith, append_assoc, ⊎_elim, nat_tests, not, slice_index_or, nat_lt, option_map, count_by, option_map_or, cases_Bool, cases_eq, cond_both, and_parts, lt-ltb, take_all, CallEvent, CallId, CallRecord, last_event, LiveStands, MayLive, Occurrence, ArrivedCall, Past, branches, call, count_below, decides, is_out, marked, outs, branch_deadlines, call_id, is_broken, own_events, record_of, front, queued_entries, Live, ConnectionValue, shown_of, ReplyEntry, JobValue, record_now, IsKnown, own, without_breaks, Placed, occurrences, AllStand, Now, by_events, Occurs, History, CoreValue, HasConns, Lives, Served}
+use Rattle.std.specs.Prelude.{◌≡◌, ◌≤◌, ◌<◌, ◌∷◌, ◌++◌, ◌&&◌, ◌||◌, if◌then◌else◌}
+use Rattle.gateway_theory.specs.lemmas.Names.{ℕ, zero, suc, Bool, true, false, List, [], length, Option, None, Some, refl, sym, ap, ◌∙◌, subst, arith, append_assoc, ⊎_elim, nat_tests, not, slice_index_or, nat_lt, option_map, count_by, option_map_or, cases_Bool, cases_eq, cond_both, and_parts, lt-ltb, take_all, CallEvent, CallId, CallRecord, last_event, LiveStands, MayLive, Occurrence, ArrivedCall, Past, branches, call, count_below, decides, is_out, marked, outs, branch_deadlines, call_id, is_broken, own_events, record_of, front, queued_entries, Live, ConnectionValue, are_all_there, is_done, is_open_value, is_broken_value, untaken_value, is_whole, ReplyEntry, JobValue, record_now, IsKnown, own, without_breaks, Placed, occurrences, AllStand, Now, by_events, Occurs, History, CoreValue, HasConns, Lives, Served}
 use Rattle.std.proofs.Common.{append-nil}
 use Rattle.gateway_model.specs.Record.{answers_among, is_decided, is_ending, is_lawful}
 use Rattle.gateway_theory.specs.lemmas.LimitLemmas.{count_less, out_started, outs_limit}
@@ -12,6 +12,9 @@ use Rattle.gateway_theory.specs.lemmas.Standing.{outs_stand, queue_stands}
 use Rattle.gateway_theory.specs.lemmas.StoreLemmas.{some_same}
 use Rattle.gateway_theory.specs.lemmas.PrefixLemmas.{call_within, events_occur}
 use Rattle.gateway_theory.specs.Core.{shown}
+use Rattle.gateway_theory.specs.Values.{is_idle_value}
+use Rattle.gateway_model.specs.Ahead.{BringsNoMore, are_answered, ends_calls, least_deadline}
+use Rattle.gateway_theory.specs.lemmas.Ahead.{answered_stands, deadline_all, ends_all, stream_over}
 
 -- ---- counting
 
@@ -115,21 +118,24 @@ module _ (n : Now) (conns : ℕ → ConnectionValue) (opened : ℕ) (taken : ℕ
   still : (a b : Bool) → (a && not b) ≡ true → b ≡ false
   still a b is = grind (arith, nat_tests)
 
-  pub broken_shown : (c : ℕ) → (shown_of opened conns waiting).is_open c ≡ true → (shown_of opened conns waiting).is_broken c ≡ is_broken c (marked os)
+  pub broken_shown : (c : ℕ) → is_open_value opened c (conns c) ≡ true → is_broken_value opened c (conns c) ≡ is_broken c (marked os)
   broken_shown c there = ap (λ b. b && (conns c).broken) there ∙ broken_stands c (still (nat_lt c opened) (conns c).closed there)
 
-  pub queue_shown : (c : ℕ) → (shown_of opened conns waiting).is_open c ≡ true → taken c ++ (shown_of opened conns waiting).untaken c ≡ queued_entries c (marked os)
+  pub queue_shown : (c : ℕ) → is_open_value opened c (conns c) ≡ true → taken c ++ untaken_value opened c (conns c) ≡ queued_entries c (marked os)
   queue_shown c there =
       ap (λ b. taken c ++ (if b then front (conns c).slots else [])) there ∙ queue_stands n conns taken handed waiting os h c (still (nat_lt c opened) (conns c).closed there)
 
-  pub outs_shown : (c k : ℕ) → (shown_of opened conns waiting).outs (call_id c k) ≡ outs (call_id c k) (marked os)
+  pub outs_shown : (c k : ℕ) → count_by (λ b. b) ((conns c).calls k).out ≡ outs (call_id c k) (marked os)
   outs_shown c k = outs_same (call_id c k) ((conns c).calls k).out (marked os) (outs_stand n conns taken handed waiting os h c k)
 
-  pub records_shown : (c k : ℕ) → (shown_of opened conns waiting).recorded (call_id c k) ≡ record_now (call_id c k) (marked os)
+  pub records_shown : (c k : ℕ) → option_map (λ (l : Live). record_of l.asked l.deadlines l.events) ((conns c).calls k).live ≡ record_now (call_id c k) (marked os)
   records_shown c k =
       record_stands (call_id (conns c).number k) ((conns c).calls k).live ((conns c).calls k).out (marked (own c os)) ((h.each c).calls k).live_is
       ∙ ap (λ d. record_now (call_id d k) (marked (own c os))) (h.numbers c)
       ∙ sym (record_alike c k (marked os) (marked (own c os)) (own_alike c os))
+
+  pub idle_shown : (c : ℕ) → is_open_value opened c (conns c) ≡ true → is_idle_value opened c (conns c) ≡ are_answered c (marked os)
+  idle_shown c there = ap (λ b. not b || are_all_there (conns c).slots) there ∙ answered_stands n conns taken handed waiting os h c (still (nat_lt c opened) (conns c).closed there)
 
 -- ---- the record of a call that goes on
 
@@ -157,6 +163,30 @@ module _ (v : CoreValue) (h : History) (os : List Occurrence) (conns : HasConns 
   outs_few : (id : CallId) (a : ArrivedCall) → call id (marked os) ≡ Some a → (shown v).outs id ≤ a.plan.limit
   outs_few id a a_is = grind (arith, nat_tests, within_limit, events_occur, outs_kept)
 
+  whole_open : (c : ℕ) → is_whole c (shown v) ≡ true → (is_open_value v.opened c (v.conns c) ≡ true) × ((v.conns c).broken ≡ false)
+  whole_open c whole = by (is_open_value v.opened c (v.conns c)) refl (v.conns c).broken refl
+    where
+      by : (a : Bool) → is_open_value v.opened c (v.conns c) ≡ a → (b : Bool) → (v.conns c).broken ≡ b → (is_open_value v.opened c (v.conns c) ≡ true) × ((v.conns c).broken ≡ false)
+      by true a_is false b_is = (a_is, b_is)
+      by true a_is true b_is = absurd (let clash : false ≡ true = rw (a_is, b_is) at whole in cc)
+      by false a_is b b_is = absurd (let clash : false ≡ true = rw a_is at whole in cc)
+
+  ended_whole : (c : ℕ) → is_whole c (shown v) ≡ true → (over : Bool) × BringsNoMore h.opened c h.events over × ((shown v).is_ended c ≡ (over && (shown v).is_idle c))
+  ended_whole c whole =
+      let parts = whole_open c whole in (
+        is_done (v.streams c),
+        stream_over h.opened h.events v.opened c (v.conns c) (v.streams c) (conns.each c) parts.0 parts.1,
+        rw (parts.0, parts.1) refl,
+      )
+
+  ended_silent : (c : ℕ) → is_whole c (shown v) ≡ false → (shown v).is_ended c ≡ true
+  ended_silent c gone = by (is_open_value v.opened c (v.conns c)) refl (v.conns c).broken refl
+    where
+      by : (a : Bool) → is_open_value v.opened c (v.conns c) ≡ a → (b : Bool) → (v.conns c).broken ≡ b → (shown v).is_ended c ≡ true
+      by false a_is b b_is = rw a_is refl
+      by true a_is true b_is = rw (a_is, b_is) refl
+      by true a_is false b_is = absurd (let clash : true ≡ false = rw (a_is, b_is) at gone in cc)
+
   known_lived : IsKnown (shown v) h os
   known_lived = record {
     lived = lived;
@@ -170,6 +200,14 @@ module _ (v : CoreValue) (h : History) (os : List Occurrence) (conns : HasConns 
     outs_are = λ id. outs_kept id;
     records_are = λ id. records_shown v.now v.conns v.opened h.taken h.handed v.waiting (occurrences lived) l.stands id.conn id.request;
     records = λ id r r_is. records_kept id r r_is;
+    idle_are = λ c there. idle_shown v.now v.conns v.opened h.taken h.handed v.waiting (occurrences lived) l.stands c there;
+    ended_are = λ c whole. ended_whole c whole;
+    idle_gone = λ c shut. ap (λ b. not b || are_all_there (v.conns c).slots) shut;
+    ended_gone = λ c gone. ended_silent c gone;
+    deadline_is =
+        deadline_all v.now v.conns h.taken h.handed v.waiting (occurrences lived) l.stands v.opened ∙ ap (λ n. least_deadline n (marked (occurrences lived))) (sym conns.count_is);
+    ends_are = λ m.
+        ends_all v.now v.conns h.taken h.handed v.waiting (occurrences lived) l.stands v.opened m ∙ ap (λ n. ends_calls n m (marked (occurrences lived))) (sym conns.count_is);
     limit = λ id a a_is. outs_few id a a_is;
   }
 

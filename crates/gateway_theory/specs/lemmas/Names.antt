@@ -41,10 +41,10 @@ pub use Rattle.gateway_theory.specs.Arrivals.{calls_arrived, calls_in}
 pub use Rattle.gateway_theory.specs.Begins.{arrive, first_ones, begins, new_live, begun_live, first_jobs, first_out}
 pub use Rattle.gateway_theory.specs.Breaks.{CallStays, NothingOf, starting_conn, seen_by}
 pub use Rattle.gateway_theory.specs.Connection.{SlotsStand, AllStand, Now, went, filled, now_of, is_shut_value, call_step, now_after, breaks_of, all_after, ConnectionStands, forgets, arriving, entered, next, stepped, all_started, MayCome, reply_taken, NowStands, started_by}
-pub use Rattle.gateway_theory.specs.Core.{CoreValue, HasConns, Adds, Lives, is_heard, StreamStands, StreamValue, is_waiting, at_place, Served, HasStreams, then_came, refusals, FedUpTo, HasCome, new_stream}
+pub use Rattle.gateway_theory.specs.Core.{CoreValue, HasConns, Adds, Lives, is_heard, StreamStands, is_waiting, at_place, Served, HasStreams, then_came, refusals, FedUpTo, HasCome}
 pub use Rattle.gateway_theory.specs.Ends.{AreApart, ended_kept, ended_call, ended_if}
-pub use Rattle.gateway_theory.specs.Gateway.{core_of, stream_of, is_broken_conn, open_count, if_open, is_open_conn, call_in, next_reply, one_if_open, untaken_of, calls_kept, are_all_there}
-pub use Rattle.gateway_theory.specs.Held.{Holds, lost_held, broken_held, left_of, result_in, settled_held, broke, ended_held, hears, back_held, entered_held, arriving_in, hung_held, Forgets, TakesResult, TakesStarved, closed_held, forgotten, late, lost, new_reader, settled, stays, unknown, stepped_held, read_held, TakesBytes, dropped, not_fed, read, unread, CallsEnd, ended, stream_in, HangsUp, hung, unnoticed, ended_entry, has_out_in, is_gone, new_held, kept_now, next_held, replied, ReadsOn, coming_of, most_begun, HasBrought, undecided, begun_by, TakesReply, taken_held, begins_call}
+pub use Rattle.gateway_theory.specs.Gateway.{core_of, is_broken_conn, open_count, if_open, is_open_conn, call_in, next_reply, one_if_open, untaken_of, calls_kept}
+pub use Rattle.gateway_theory.specs.Held.{Holds, lost_held, broken_held, left_of, result_in, settled_held, broke, ended_held, hears, back_held, entered_held, arriving_in, hung_held, Forgets, TakesResult, TakesStarved, closed_held, forgotten, late, lost, new_reader, settled, stays, unknown, stepped_held, read_held, TakesBytes, dropped, not_fed, read, unread, CallsEnd, ended, HangsUp, hung, unnoticed, ended_entry, has_out_in, is_gone, new_held, kept_now, next_held, replied, ReadsOn, coming_of, most_begun, HasBrought, undecided, begun_by, TakesReply, taken_held, begins_call}
 pub use Rattle.gateway_theory.specs.LiveStands.{CallStands, LiveStands, is_live, Stepped, MayLive, tasks_from}
 pub use Rattle.gateway_theory.specs.Conn.{slot_at, is_full}
 pub use Rattle.gateway_theory.specs.Replies.{ReplyValue, replies}
@@ -52,12 +52,12 @@ pub use Rattle.gateway_theory.specs.RequestLaws.{RequestLaws}
 pub use Rattle.gateway_theory.specs.Results.{is_spent, stepped_kept, back_kept}
 pub use Rattle.gateway_theory.specs.Served.{after_reply}
 pub use Rattle.gateway_theory.specs.Serving.{IsServing, IsHeld, CountsCalls, Keeps, KeepsBut, NotListening, TakesOnly, TakesSome, TellsStep, WouldBegin, is_silent, Breaks, NoneSpent}
-pub use Rattle.gateway_theory.specs.Step.{kept, Step, moment_after, has_out, deadlines_in, step, result_on, ended_by, step_to, ended_live, ending, entry_as, deadlines_then, first_of, rest_of, next_out, is_last_answer, counted}
+pub use Rattle.gateway_theory.specs.Step.{kept, Step, has_out, step, result_on, ended_by, step_to, ended_live, ending, entry_as, deadlines_then, first_of, rest_of, next_out, is_last_answer, counted}
 pub use Rattle.gateway_theory.specs.Steps.{Moves, absent, there, HangsUpAt, Results, Starves, Feeds, Drains, Reaches, Closes, Opens, Broadcast, MayEnd, TakesJob, TakesReplyAt, shut, open_in, Tallies, kept_in, first_gateway}
 pub use Rattle.gateway_theory.specs.Store.{kept_at, no_call, IsFound, given_up}
 pub use Rattle.gateway_theory.specs.Task.{HandedJob, task_of}
 pub use Rattle.gateway_theory.specs.Told.{HandsJobs, HandsReply, IsWanted, LeavesLived, LeavesReplied, TellsTook, AddsEvent, AddsOpening, OpensFew, TakesEvent, TakesOneOf, TakesOpening, TakesOne, IsSeen}
-pub use Rattle.gateway_theory.specs.Values.{ConnectionValue, HeldConnection, GatewayValue, conn_of, is_open_value, Live, connection, connection_of, call_state, not_kept, KeptValue, value_of, CallState, call_at, gone, is_broken_value, shown, shown_of, untaken_value}
+pub use Rattle.gateway_theory.specs.Values.{ConnectionValue, HeldConnection, GatewayValue, conn_of, is_open_value, Live, connection, connection_of, call_state, not_kept, KeptValue, value_of, CallState, call_at, gone, is_broken_value, shown, shown_of, untaken_value, StreamValue, new_stream, stream_in, stream_of, are_all_there, is_done, call_deadline, deadline_in, deadline_among, deadlines_in, moment_after}
 pub use Rattle.gateway_theory.specs.declared.fault.StepFault.{StepFault}
 pub use Rattle.gateway_theory.specs.declared.fault.Took.{Took}
 pub use Rattle.gateway_theory.specs.declared.trigger.Trigger.{Trigger}
