@@ -142,6 +142,35 @@ def case_log_of_causes(room):
                    [f"id-{at}" for at in range(len(plans))])
 
 
+def case_log_of_whose_requests(room):
+    """a line of the log tells who asked: the client's address, the id of each call, and the target of what is no call"""
+    with Backend("1") as backend, open(f"{room.folder}/log", "w+b") as log:
+        run, port = room.serve(plan([backend.port], 1), streams=11, log=True, stderr=log)
+        peers = []
+        for at in range(10):
+            with client(port) as stream:
+                peers.append("{}:{}".format(*stream.getsockname()))
+                for asked in range(8):
+                    call(stream, f"X-Request-Id: {at}-{asked}\r\n")
+                for asked in range(8):
+                    expect(f"reply {asked} of client {at}", read_reply(stream)[0], "200")
+        with client(port) as stream:
+            peers.append("{}:{}".format(*stream.getsockname()))
+            stream.sendall(b"GET /not%20here?key=secret HTTP/1.1\r\nHost: g\r\nX-Request-Id: z-1\r\n\r\n")
+            stream.sendall(b"POST /" + b"x" * 300 + b" HTTP/1.1\r\nHost: g\r\nContent-Length: 0\r\n\r\n")
+            stream.sendall(b"GET / HTTP/1.1\r\nHost: g\r\nTransfer-Encoding: chunked\r\n\r\n")
+            expect("what is no call", [read_reply(stream)[0] for _ in range(3)], ["405", "404", "411"])
+        expect("the status", run.wait(timeout=WAIT), 0)
+        log.seek(0)
+        replies, _ = told(log.read())
+    found = {(line["connection"], line["request"]): (line["request_id"], line["target"], line["peer"]) for line in replies}
+    wanted = {(at, asked): (f"{at}-{asked}", None, peers[at]) for at in range(10) for asked in range(8)}
+    wanted[(10, 0)] = "z-1", "/not%20here", peers[10]
+    wanted[(10, 1)] = None, "/" + "x" * 199, peers[10]
+    wanted[(10, 2)] = None, None, peers[10]
+    expect("whose requests are told", found, wanted)
+
+
 def case_log_of_branches_given_up(room):
     """branches that are given up are told: where another failed, where the client is gone, and at a drain"""
     where = free_port()

@@ -1,4 +1,5 @@
 pub mod Branch
+pub mod Broken
 pub mod Closed
 pub mod Leaves
 pub mod Line

@@ -1,6 +1,6 @@
 -- The line of the log for a reply: what it tells of the entry, which the request was answered by, and its text.
 use Rattle.std.specs.Prelude.{⊤, ℕ, ◌-◌, List, codes, Option, None, Some, option_map, option_and_then}
-use Rattle.std.specs.Option.{option_map_or}
+use Rattle.std.specs.Option.{option_copied, option_map_or}
 use Rattle.serde_json.specs.Data.{Data, null, number, unsigned, string, object, member, no_members}
 use Rattle.serde_json.specs.Written.{compact_text}
 use Rattle.http_pieces.specs.declared.refusal.Refusal.{Refusal}
@@ -19,6 +19,7 @@ use Rattle.gateway_model.specs.CallRecord.{CallRecord, last_event}
 use Rattle.gateway_model.specs.Errors.{error_of}
 use Rattle.access_log.specs.declared.ending.Ended.{Ended}
 use Rattle.access_log.specs.declared.ending.Ended.TheVariants as ended
+use Rattle.access_log.specs.declared.line.Caller.{Caller}
 
 -- ---- what ended a call
 
@@ -122,10 +123,23 @@ text_or_null text = option_map_or string text null
 abbrev pub number_or_null : Option ℕ → Data
 number_or_null n = option_map_or (λ n. number (unsigned n)) n null
 
+-- whose request a reply answers, without its borrows
+pub record ToldCaller : Type 0 where
+  pub request_id : Option (List ℕ)
+  pub target : Option (List ℕ)
+  pub peer : Option (List ℕ)
+
+abbrev pub caller_of : Caller → ToldCaller
+caller_of c = record {
+  request_id = option_copied c.request_id;
+  target = option_copied c.target;
+  peer = option_copied c.peer;
+}
+
 -- The document of a reply that a worker wrote at that time, in milliseconds from 1970, and at that moment of the
--- gateway's, with the request id of its call, if that is known. The keys are in byte order.
-abbrev pub log_document : ℕ → ℕ → ℕ → CallId → ReplyEntry → Option (List ℕ) → Data
-log_document time moment worker id entry request_id =
+-- gateway's, to that caller. The keys are in byte order.
+abbrev pub log_document : ℕ → ℕ → ℕ → CallId → ReplyEntry → ToldCaller → Data
+log_document time moment worker id entry caller =
     object (
     member (codes "branch") (text_or_null (branch_told entry)) (
     member (codes "code") (text_or_null (option_map code_name (code_told entry))) (
@@ -133,12 +147,14 @@ log_document time moment worker id entry request_id =
     member (codes "ended") (string (ended_told entry)) (
     member (codes "ms") (number_or_null (taken_told moment entry)) (
     member (codes "path") (text_or_null (path_told entry)) (
+    member (codes "peer") (text_or_null caller.peer) (
     member (codes "request") (number (unsigned id.request)) (
-    member (codes "request_id") (text_or_null request_id) (
+    member (codes "request_id") (text_or_null caller.request_id) (
     member (codes "status") (number (unsigned (status_told entry))) (
+    member (codes "target") (text_or_null caller.target) (
     member (codes "time") (number (unsigned time)) (
-    member (codes "worker") (number (unsigned worker)) no_members)))))))))))
+    member (codes "worker") (number (unsigned worker)) no_members)))))))))))))
 
 -- the line: the document as compact JSON, with no LF
-unfoldable pub log_line : ℕ → ℕ → ℕ → CallId → ReplyEntry → Option (List ℕ) → List ℕ
-log_line time moment worker id entry request_id = compact_text (log_document time moment worker id entry request_id)
+unfoldable pub log_line : ℕ → ℕ → ℕ → CallId → ReplyEntry → ToldCaller → List ℕ
+log_line time moment worker id entry caller = compact_text (log_document time moment worker id entry caller)

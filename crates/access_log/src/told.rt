@@ -123,7 +123,7 @@ fn code_of(call: &CallRecord) -> Option<Code>
 }
 
 /// The reply's status.
-pub(crate) fn status(entry: &ReplyEntry) -> u16
+pub fn status(entry: &ReplyEntry) -> u16
     ensures { result ≡ status_told entry.now }
 {
     match code(entry) {

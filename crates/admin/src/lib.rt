@@ -12,6 +12,7 @@ mod labels;
 mod loop_counts;
 mod metrics;
 mod names;
+mod rejections;
 mod totals;
 
 pub use answer::{
@@ -24,4 +25,5 @@ pub use drain::{Drain, Stage};
 pub use loop_counts::LoopCounts;
 pub use metrics::{Figures, LoopFigures, metrics_text};
 pub use names::{BranchName, ServedNames};
+pub use rejections::Rejections;
 pub use totals::{BranchTotals, PlanTotals};

@@ -1,5 +1,6 @@
 use crate::branch_counts::BranchCounts;
 use crate::names::ServedNames;
+use crate::rejections::{RejectionCounts, Rejections};
 use crate::totals::{BranchTotals, ENDINGS, PlanTotals, place_of_ending, place_of_time};
 use access_log::{ended, taken};
 use branch_causes::Cause;
@@ -16,6 +17,7 @@ pub struct LoopCounts {
     // for each plan, and one more for what is no call
     counts: Vec<Counts>,
     branches: BranchCounts,
+    rejections: RejectionCounts,
 }
 
 #[derive(Drop)]
@@ -37,11 +39,13 @@ impl LoopCounts {
             names: Arc::try_clone(names)?,
             counts,
             branches: BranchCounts::new(alloc, names.branches.len())?,
+            rejections: RejectionCounts::new(alloc)?,
         })
     }
 
     /// Counts a reply that was written at that moment, in the milliseconds in which the calls' arrivals are told.
     pub fn count(&self, moment: u64, entry: &ReplyEntry) {
+        self.rejections.count(entry);
         let Some(counts) = self.counts.get(self.names.place_of_reply(entry)) else {
             return;
         };
@@ -69,6 +73,11 @@ impl LoopCounts {
                 counts.add_to(totals);
             }
         }
+    }
+
+    /// Adds what was counted of replies to what is no call, by their statuses.
+    pub fn add_rejections_to(&self, totals: &mut Rejections) {
+        self.rejections.add_to(totals);
     }
 
     /// Adds what was counted to the totals of each branch.

@@ -1,5 +1,6 @@
 use crate::labels::{add_first, add_label, add_number, add_seconds};
 use crate::names::{BranchName, ServedNames};
+use crate::rejections::{REJECTIONS, Rejections, STATUSES};
 use crate::totals::{ALL_CAUSES, ALL_ENDINGS, BranchTotals, PlanTotals, place_of_ending};
 use access_log::Ended;
 use branch_causes::Cause;
@@ -35,8 +36,12 @@ pub struct Figures<'a> {
     pub asked: &'a [BranchTotals],
     /// Each loop, by its number.
     pub loops: &'a [LoopFigures],
+    /// The replies to what is no call.
+    pub rejections: &'a Rejections,
     /// How many streams were closed without a byte.
     pub streams_closed: u64,
+    /// How many connections broke, for want of memory.
+    pub connections_broken: u64,
     /// How many lines of the log were left out.
     pub lines_left_out: u64,
 }
@@ -45,11 +50,13 @@ pub struct Figures<'a> {
 pub fn metrics_text(alloc: Global, figures: &Figures<'_>) -> Result<Bytes, AllocError> {
     let mut text = Vec::new(alloc);
     add_replies(&mut text, figures)?;
+    add_rejections(&mut text, figures.rejections)?;
     add_times(&mut text, figures)?;
     add_asked(&mut text, figures)?;
     add_waits(&mut text, figures)?;
     add_loops(&mut text, figures.loops)?;
     add_closed(&mut text, figures.streams_closed)?;
+    add_broken(&mut text, figures.connections_broken)?;
     add_left_out(&mut text, figures.lines_left_out)?;
     Ok(Bytes::from_vec(text))
 }
@@ -85,6 +92,34 @@ fn add_endings(
         add_first(text, "connect_gateway_replies_total", "plan", path)?;
         add_label(text, "ending", ended.name().as_bytes())?;
         add_number(text, count.unwrap_or(0))?;
+    }
+    Ok(())
+}
+
+fn add_rejections(text: &mut Vec<u8>, rejections: &Rejections) -> Result<(), AllocError> {
+    text.extend_from_slice(
+        b"# HELP connect_gateway_rejections_total Replies to what is no call, by what it was and their status. \
+          A status that never came has no line.\n\
+          # TYPE connect_gateway_rejections_total counter\n",
+    )?;
+    for (place, count) in rejections.counts.iter().enumerate() {
+        if *count > 0 {
+            add_rejection(text, place, *count)?;
+        }
+    }
+    Ok(())
+}
+
+/// The line of the ending and the status in that place.
+fn add_rejection(text: &mut Vec<u8>, place: usize, count: u64) -> Result<(), AllocError> {
+    let ended = REJECTIONS.get(place / STATUSES.len());
+    let status = STATUSES.get(place % STATUSES.len());
+    if let (Some(ended), Some(status)) = (ended, status) {
+        let name = "connect_gateway_rejections_total";
+        add_first(text, name, "ending", ended.name().as_bytes())?;
+        let mut digits = itoa::Buffer::new();
+        add_label(text, "status", digits.format(*status).as_bytes())?;
+        add_number(text, count)?;
     }
     Ok(())
 }
@@ -209,6 +244,16 @@ fn add_closed(text: &mut Vec<u8>, count: u64) -> Result<(), AllocError> {
           all connections were in use, or memory was refused.\n\
           # TYPE connect_gateway_streams_closed_total counter\n\
           connect_gateway_streams_closed_total ",
+    )?;
+    text.extend_from_slice(itoa::Buffer::new().format(count).as_bytes())?;
+    text.extend_from_slice(b"\n")
+}
+
+fn add_broken(text: &mut Vec<u8>, count: u64) -> Result<(), AllocError> {
+    text.extend_from_slice(
+        b"# HELP connect_gateway_connections_broken_total Connections that broke, for want of memory.\n\
+          # TYPE connect_gateway_connections_broken_total counter\n\
+          connect_gateway_connections_broken_total ",
     )?;
     text.extend_from_slice(itoa::Buffer::new().format(count).as_bytes())?;
     text.extend_from_slice(b"\n")

@@ -1,7 +1,7 @@
 ghost use Rattle.std.specs.Prelude.{◌≡◌, ◌∷◌, ◌++◌, ℕ, List, [], false};
 
 use crate::branch_end::BranchEnd;
-use gateway_core::{CallId, ReplyEntry};
+use gateway_core::{CallId, ConnId, ReplyEntry, RequestLabel};
 use std::net::SocketAddr;
 use wires::Wire;
 
@@ -31,8 +31,14 @@ pub trait Network<W: Wire> {
     fn look_up(&mut self, name: &str) -> bool
         ensures told { told self.new ≡ told self.old };
 
-    /// Is told that the reply to this request was written whole, or that its write failed.
-    fn tell_reply(&mut self, id: CallId, entry: &ReplyEntry)
+    /// Is told that the reply to this request was written whole to the client, or that its write failed. The label is
+    /// what a log tells of the request.
+    fn tell_reply(&mut self, client: &W, id: CallId, entry: &ReplyEntry, label: &RequestLabel)
+        ensures told { told self.new ≡ told self.old };
+
+    /// Is told that the connection of this client broke, for want of memory. What was queued for it was written, or its
+    /// stream takes nothing more.
+    fn tell_broken(&mut self, client: &W, conn: ConnId)
         ensures told { told self.new ≡ told self.old };
 
     /// Is told that a stream was closed without a byte: there was no memory for it, or it could not be watched.

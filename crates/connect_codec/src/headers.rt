@@ -1,10 +1,11 @@
-ghost use Rattle.std.specs.Prelude.{◌≡◌, ℕ, List, IfOk};
+ghost use Rattle.std.specs.Prelude.{◌≡◌, ℕ, List, IfOk, codes};
+ghost use Rattle.std.specs.Option.{option_copied};
 ghost use Rattle.std.specs.List.{list_all};
-ghost use Rattle.http_pieces.specs.Fields.{IsFieldOf};
+ghost use Rattle.http_pieces.specs.Fields.{IsFieldOf, values_of};
 ghost use Rattle.connect_codec.specs.Headers.{is_one, is_absent_or_one, is_json_type, is_identity, is_version_1, is_visible, is_request_id, request_id_of};
 
 use crate::text::until;
-use http_pieces::{Bytes, Field, same_without_case, trim_blanks};
+use http_pieces::{Bytes, Field, Request, same_without_case, trim_blanks};
 use std::alloc::{AllocError, Global};
 
 /// Whether the one value of a `Content-Type` field is JSON.
@@ -47,6 +48,16 @@ pub(crate) fn is_known_version(version: Field<'_>) -> bool
         Field::None => true,
         Field::One(value) => matches!(value, b"1"),
         Field::Many => false,
+    }
+}
+
+/// The id that the request names, if its field `X-Request-Id` has one value that is an id.
+pub fn named_id(request: &Request) -> Option<&[u8]>
+    ensures { option_copied result ≡ request_id_of (values_of (codes "X-Request-Id") request.now.fields) }
+{
+    match request.field(b"X-Request-Id") {
+        Field::One(value) if is_request_id(value) => Some(value),
+        _ => None,
     }
 }
 

@@ -18,6 +18,7 @@ mod verdict;
 pub use answer::Outcome;
 pub use ask::BranchAsk;
 pub use branch::branch_request;
+pub use headers::named_id;
 pub use meaning::outcome;
 pub use path::target_path;
 pub use reply::{bare_reply, error_reply, success_reply};

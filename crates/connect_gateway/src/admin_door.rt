@@ -5,9 +5,9 @@ use crate::entrance::{Entrance, VISITORS};
 use crate::loop_side::LoopSide;
 use crate::visitor::Seen;
 use admin::{
-    Asked, BranchTotals, Door, Drain, Figures, LoopFigures, PlanTotals, Readiness, ServedNames,
-    drain_reply, forbidden_reply, metrics_reply, metrics_text, misdirected_reply, not_found_reply,
-    only_get_reply, only_post_reply, ready_reply, refusal_reply,
+    Asked, BranchTotals, Door, Drain, Figures, LoopFigures, PlanTotals, Readiness, Rejections,
+    ServedNames, drain_reply, forbidden_reply, metrics_reply, metrics_text, misdirected_reply,
+    not_found_reply, only_get_reply, only_post_reply, ready_reply, refusal_reply,
 };
 use http_pieces::{Bytes, Text};
 use mio::net::TcpListener;
@@ -220,12 +220,16 @@ impl AdminDoor {
         let (mut totals, mut asked) = self.no_totals()?;
         let mut loops = Vec::new(self.alloc);
         let mut unserved = now.unserved;
+        let mut rejections = Rejections::new();
+        let mut broken: u64 = 0;
         for side in sides {
             if let Some(counts) = &side.counts {
                 counts.add_to(&mut totals);
                 counts.add_branches_to(&mut asked);
+                counts.add_rejections_to(&mut rejections);
             }
             unserved = unserved.saturating_add(side.unserved.load(Ordering::SeqCst));
+            broken = broken.saturating_add(side.broken.load(Ordering::SeqCst));
             loops.push(LoopFigures {
                 connections: side.open.load(Ordering::SeqCst),
                 exchanges: side.standing(rt).asking as u64,
@@ -236,7 +240,9 @@ impl AdminDoor {
             totals: &totals,
             asked: &asked,
             loops: &loops,
+            rejections: &rejections,
             streams_closed: unserved,
+            connections_broken: broken,
             lines_left_out: self.dropped.load(Ordering::SeqCst),
         };
         metrics_text(self.alloc, &figures)

@@ -6,12 +6,12 @@ use crate::log_writer::milliseconds_since_1970;
 use crate::loop_log::LogLines;
 use crate::loop_side::{LoopSide, Mail};
 use crate::main_side::MainSide;
-use crate::socket::{Seat, Socket, lacks_descriptor, turn_away};
+use crate::socket::{Newcomer, Seat, Socket, lacks_descriptor, turn_away};
 use crate::waiting::Waiting;
 use access_log::{Remark, Unserved, remark_line};
 use admin::{Readiness, Stage};
 use gateway_loop::Dealt;
-use mio::net::{TcpListener, TcpStream};
+use mio::net::TcpListener;
 use mio::{Events, Interest, Poll, Token, Waker};
 use script_replay::{Fault, stock};
 use std::alloc::Global;
@@ -56,7 +56,7 @@ pub(crate) struct Dealer<M> {
     // none once nobody listens any more
     listener: Option<TcpListener>,
     // streams that were accepted and not dealt yet
-    waiting: Waiting<TcpStream>,
+    waiting: Waiting<Newcomer>,
     poll: Poll,
     events: Events,
     /// What main shares with the loops.
@@ -219,7 +219,7 @@ impl<M: Host + Net> Dealer<M> {
     }
 
     /// The next stream that waits at the listener, unless no more may wait for a place.
-    fn next_stream(&mut self) -> io::Result<Option<TcpStream>> {
+    fn next_stream(&mut self) -> io::Result<Option<Newcomer>> {
         let Some(listener) = &self.listener else {
             return Ok(None);
         };
@@ -227,7 +227,7 @@ impl<M: Host + Net> Dealer<M> {
             return Ok(None);
         }
         match listener.accept() {
-            Ok((stream, _peer)) => Ok(Some(stream)),
+            Ok((stream, peer)) => Ok(Some(Newcomer { stream, peer })),
             Err(error) if error.kind() == ErrorKind::WouldBlock => {
                 self.tells_descriptors = false;
                 Ok(None)
@@ -255,9 +255,9 @@ impl<M: Host + Net> Dealer<M> {
 
     /// Takes in a stream that was accepted: it is dealt, behind those that wait, or waits too. Where there is no memory
     /// for that it is closed.
-    fn take_in(&mut self, stream: TcpStream) {
+    fn take_in(&mut self, newcomer: Newcomer) {
         let moment = self.clock.now(&self.rt);
-        if self.waiting.add(stream, moment).is_err() {
+        if self.waiting.add(newcomer, moment).is_err() {
             self.tell_unserved(Unserved::NoMemory);
         }
         self.deal_waiting();
@@ -270,10 +270,10 @@ impl<M: Host + Net> Dealer<M> {
             let Some(place) = self.emptiest() else {
                 break;
             };
-            let Some(stream) = self.waiting.next() else {
+            let Some(newcomer) = self.waiting.next() else {
                 break;
             };
-            if self.hand_to(place, stream).is_none() {
+            if self.hand_to(place, newcomer).is_none() {
                 self.tell_unserved(Unserved::NoMemory);
             }
         }
@@ -290,10 +290,10 @@ impl<M: Host + Net> Dealer<M> {
     /// Closes those streams that have waited for a place up to that moment.
     fn turn_away_late(&mut self, moment: u64) {
         for _waiter in 0..self.waiting.len() {
-            let Some(stream) = self.waiting.next_late(moment) else {
+            let Some(newcomer) = self.waiting.next_late(moment) else {
                 return;
             };
-            turn_away(stream);
+            turn_away(newcomer.stream);
             self.tell_unserved(Unserved::NoPlace);
         }
     }
@@ -358,10 +358,10 @@ impl<M: Host + Net> Dealer<M> {
     }
 
     /// Hands a stream to the loop in that place. None where there is no memory for that: then it is closed.
-    fn hand_to(&self, place: usize, stream: TcpStream) -> Option<()> {
+    fn hand_to(&self, place: usize, newcomer: Newcomer) -> Option<()> {
         let side = self.sides.get(place)?;
         let seat = Seat::among(&side.open, &self.main).ok()?;
-        let socket = Socket::of_client(stream, seat).ok()?;
+        let socket = Socket::of_client(newcomer, seat).ok()?;
         let dealt = Dealt::new(Told::new(socket), stock(self.alloc).ok()?);
         side.hand_in(&self.rt, Mail::Stream(dealt)).ok()
     }
@@ -392,7 +392,7 @@ impl<M: Host + Net> Dealer<M> {
 /// What accepting came to.
 #[derive(Drop)]
 enum Accepted {
-    Stream(TcpStream),
+    Stream(Newcomer),
     /// None waited, and a wait is over.
     Nothing,
     /// None waits, and no more are to be accepted.

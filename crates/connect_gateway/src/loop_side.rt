@@ -39,6 +39,8 @@ pub(crate) struct LoopSide {
     pub(crate) counts: Option<LoopCounts>,
     /// How many streams it closed without a byte.
     pub(crate) unserved: AtomicU64,
+    /// How many of its connections broke, for want of memory.
+    pub(crate) broken: AtomicU64,
     // how it stood after its last turn
     standing: Mutex<LoopStanding>,
     is_closed: AtomicBool,
@@ -72,6 +74,7 @@ impl LoopSide {
             open: Arc::new(alloc, AtomicU64::new(0))?,
             counts,
             unserved: AtomicU64::new(0),
+            broken: AtomicU64::new(0),
             standing: Mutex::new(idle(Tally {
                 counted: 0,
                 late: 0,

@@ -6,10 +6,11 @@ use crate::loop_side::{LoopSide, Mail, PAUSE};
 use crate::main_side::MainSide;
 use crate::resolver::Resolver;
 use crate::socket::Socket;
+use access_log::Caller;
 use admin::{LoopCounts, ServedNames};
 use call_plan::Plans;
 use crossbeam_channel::Receiver;
-use gateway_core::{CallId, ReplyEntry};
+use gateway_core::{CallId, ConnId, ReplyEntry, RequestLabel};
 use gateway_loop::{BranchEnd, Comings, EventLoop, Network, Ready};
 use http_server::Log;
 use mio::event::Event;
@@ -203,6 +204,7 @@ const MOST_EVENTS: usize = 256;
 #[derive(Drop)]
 pub(crate) struct MioNetwork<M> {
     rt: M,
+    alloc: Global,
     poll: Poll,
     events: Events,
     clock: SinceStart,
@@ -235,6 +237,7 @@ impl<M: Host> MioNetwork<M> {
         let log = lines.map(|lines| lines.of_loop(common.alloc, worker));
         Ok(MioNetwork {
             rt: common.rt,
+            alloc: common.alloc,
             clock: common.clock,
             side,
             resolver,
@@ -304,13 +307,33 @@ impl<M: NetHost> Network<Told<Socket>> for MioNetwork<M> {
         self.resolver.ask(&self.rt, name, &self.side).is_some()
     }
 
-    fn tell_reply(&mut self, id: CallId, entry: &ReplyEntry) {
+    fn tell_reply(
+        &mut self,
+        client: &Told<Socket>,
+        id: CallId,
+        entry: &ReplyEntry,
+        label: &RequestLabel,
+    ) {
         let moment = self.clock.now(&self.rt);
         if let Some(counts) = &self.side.counts {
             counts.count(moment, entry);
         }
-        if let Some(log) = &mut self.log {
-            log.tell_reply(&self.rt, moment, id, entry);
+        if let Some(log) = &self.log {
+            let peer = client.stream().peer_text(self.alloc);
+            let caller = Caller {
+                request_id: label.id(),
+                target: label.target(),
+                peer: peer.as_ref().map(|peer| peer.as_str()),
+            };
+            log.tell_reply(&self.rt, moment, id, entry, &caller);
+        }
+    }
+
+    fn tell_broken(&mut self, client: &Told<Socket>, conn: ConnId) {
+        self.side.broken.fetch_add(1, Ordering::SeqCst);
+        if let Some(log) = &self.log {
+            let peer = client.stream().peer_text(self.alloc);
+            log.tell_broken(&self.rt, conn, peer.as_ref().map(|peer| peer.as_str()));
         }
     }
 

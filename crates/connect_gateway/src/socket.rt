@@ -1,7 +1,7 @@
 use crate::main_side::MainSide;
 use libc::{EMFILE, net as c};
 use mio::net::TcpStream;
-use std::alloc::AllocError;
+use std::alloc::{AllocError, Global};
 use std::io::{self, ErrorKind, Read, Write};
 use std::net::{Net, Shutdown, SocketAddr};
 use std::os::fd::{AsRawFd, RawFd};
@@ -18,22 +18,32 @@ const PACKET: usize = 1_200;
 /// So many bytes an address has, as `connect` is to read it.
 const ADDRESS: u32 = 16;
 
+/// A client's stream that was accepted, and the address of its client.
+#[derive(Drop)]
+pub(crate) struct Newcomer {
+    pub(crate) stream: TcpStream,
+    pub(crate) peer: SocketAddr,
+}
+
 /// A socket whose reads and writes don't wait: a client's, or one to a backend. Where it could not be made its first
 /// write fails.
 #[derive(Drop)]
 pub(crate) struct Socket {
     // given back before the client can see the end of its stream: whoever sees it finds the place free
     seat: Option<Seat>,
+    // the client's address
+    peer: Option<SocketAddr>,
     stream: Result<TcpStream, ErrorKind>,
 }
 
 impl Socket {
     /// A client's, which has that seat.
-    pub(crate) fn of_client(stream: TcpStream, seat: Seat) -> io::Result<Socket> {
-        stream.set_nodelay(true)?;
+    pub(crate) fn of_client(newcomer: Newcomer, seat: Seat) -> io::Result<Socket> {
+        newcomer.stream.set_nodelay(true)?;
         Ok(Socket {
             seat: Some(seat),
-            stream: Ok(stream),
+            peer: Some(newcomer.peer),
+            stream: Ok(newcomer.stream),
         })
     }
 
@@ -41,6 +51,7 @@ impl Socket {
     pub(crate) fn to_backend<R: Net>(rt: &R, address: SocketAddr, length: usize) -> Socket {
         Socket {
             seat: None,
+            peer: None,
             stream: connect(rt, address, length).map_err(|error| kind_of(&error)),
         }
     }
@@ -48,6 +59,12 @@ impl Socket {
     /// Its stream, or why there is none.
     fn stream(&self) -> io::Result<&TcpStream> {
         self.stream.as_ref().map_err(|kind| io::Error::from(*kind))
+    }
+
+    /// The address and the port of the client, if they are known and there is memory for their text.
+    pub(crate) fn peer_text(&self, alloc: Global) -> Option<String> {
+        let peer = self.peer?;
+        format!(in alloc; "{peer}").ok()
     }
 
     /// Its descriptor, if it has one.

@@ -17,7 +17,7 @@ use crate::times::start_branch;
 use connect_codec::Outcome;
 use err_group::Group;
 use gateway_model::{CallEvent, CallId, CallRecord, Seen};
-use gateway_replies::{Contexts, Reply, ReplyHook, reply_to};
+use gateway_replies::{Contexts, Reply, ReplyHook, RequestLabel, reply_to};
 use std::alloc::{AllocError, Global};
 use std::marker::Model;
 
@@ -214,6 +214,14 @@ impl Kept {
         self.group.done(Err(()));
     }
 
+    /// What a log tells of its request, while it can be decided.
+    pub(crate) fn label(&self) -> RequestLabel {
+        match &self.live {
+            Some(live) => RequestLabel::of_call(&live.asked.request_id),
+            None => RequestLabel::Nothing,
+        }
+    }
+
     /// The call's id.
     pub(crate) fn id(&self) -> CallId
         ensures { result ≡ self.now.id }
@@ -238,7 +246,8 @@ impl Kept {
             unreachable!();
         };
         self.group.clear_queue();
-        reply_to(alloc, contexts, self.id, live.end(event))
+        let label = RequestLabel::of_call(&live.asked.request_id);
+        reply_to(alloc, contexts, self.id, live.end(event), label)
     }
 
     /// Gives the call up: it can't be decided any more.

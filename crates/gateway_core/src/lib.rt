@@ -10,5 +10,5 @@ pub use gateway_connection::Job;
 pub use gateway_model::{
     CallEvent, CallId, CallRecord, ConnId, EndCause, Ending, ReplyBytes, ReplyEntry, Seen,
 };
-pub use gateway_replies::{CallHook, HOOKS, Reply, ReplyHook, Stock, ending_reply};
+pub use gateway_replies::{CallHook, HOOKS, Reply, ReplyHook, RequestLabel, Stock, ending_reply};
 pub use gateway_theory::{OpenError, StepFault, Tally, Took};

@@ -7,7 +7,7 @@ ghost use Rattle.gateway_theory.specs.Told.{TakesEvent};
 
 use crate::limits::MOST_WRITES;
 use branch_asking::{Edges, Network};
-use gateway_core::{CallId, ConnId, Core, ReplyEntry, ReplyHook};
+use gateway_core::{CallId, ConnId, Core, ReplyEntry, ReplyHook, RequestLabel};
 use http_pieces::Bytes;
 use std::alloc::Global;
 use std::marker::Model;
@@ -21,8 +21,8 @@ pub(crate) struct Client<W: Wire> {
     conn: ConnId,
     phase: Phase,
     outbox: Outbox,
-    // the request whose reply waits in the outbox, and what answers it
-    writing: Option<(CallId, ReplyEntry)>,
+    // the request whose reply waits in the outbox, what answers it, and what a log tells of it
+    writing: Option<(CallId, ReplyEntry, RequestLabel)>,
 }
 
 impl<W: Wire> Model for Client<W> {
@@ -206,9 +206,9 @@ impl<W: Wire> Client<W> {
         let Some(reply) = core.take_reply(self.conn) else {
             return;
         };
-        let (id, entry, bytes) = reply.into_parts();
+        let (id, entry, bytes, label) = reply.into_parts();
         self.outbox = Outbox::of(bytes);
-        self.writing = Some((id, entry));
+        self.writing = Some((id, entry, label));
     }
 
     /// Writes once of what waits. Answers what writing came to, if it goes on no more.
@@ -227,7 +227,7 @@ impl<W: Wire> Client<W> {
             Sent::Bytes(count) => {
                 self.outbox.sent(count);
                 if self.outbox.is_empty() {
-                    tell(net, &mut self.writing);
+                    self.tell(net);
                 }
                 None
             }
@@ -237,9 +237,20 @@ impl<W: Wire> Client<W> {
             }
             Sent::Interrupted => Some(Written::More),
             Sent::Failed(_) => {
-                tell(net, &mut self.writing);
+                self.tell(net);
                 Some(Written::Failed)
             }
+        }
+    }
+
+    /// Tells the reply that was being written.
+    fn tell<N: Network<W>>(&mut self, net: &mut N)
+        ensures same { self.new ≡ self.old }
+        ensures told { N.told net.new ≡ N.told net.old }
+    {
+        let writing = self.writing.take();
+        if let Some((id, entry, label)) = writing {
+            net.tell_reply(&self.wire, id, &entry, &label);
         }
     }
 
@@ -249,15 +260,6 @@ impl<W: Wire> Client<W> {
     {
         self.wire.shut();
         self.phase = Phase::Lingers;
-    }
-}
-
-/// Tells the reply that was being written.
-fn tell<W: Wire, N: Network<W>>(net: &mut N, writing: &mut Option<(CallId, ReplyEntry)>)
-    ensures { N.told net.new ≡ N.told net.old }
-{
-    if let Some((id, entry)) = writing.take() {
-        net.tell_reply(id, &entry);
     }
 }
 

@@ -260,6 +260,18 @@ impl<H: ReplyHook + Drop, W: Wire + Drop> Clients<H, W> {
         }
     }
 
+    /// Tells that the connection of the client in that place broke, if it did.
+    pub(crate) fn tell_broken<N: Network<W>>(&self, net: &mut N, place: usize)
+        ensures { N.told net.new ≡ N.told net.old }
+    {
+        let Some(client) = self.clients.get(place) else {
+            return;
+        };
+        if self.core.is_broken(client.conn()) {
+            net.tell_broken(client.wire(), client.conn());
+        }
+    }
+
     /// What is done with the stream of the client in that place.
     pub(crate) fn phase(&self, place: usize) -> Option<Phase> {
         Some(self.clients.get(place)?.phase())

@@ -155,8 +155,10 @@ impl<H: ReplyHook + Drop, W: Wire + Drop> EventLoop<H, W> {
         };
         let written = self.exchanges.write(net, place, &mut hints.edges);
         if written == Written::Failed {
+            self.clients().tell_broken(net, place);
             self.drop_client(place);
         } else if self.clients().is_to_leave(place) {
+            self.clients().tell_broken(net, place);
             self.leave(place);
         } else if written == Written::More || self.is_to_be_read(place) {
             self.line_up(client_token(place));

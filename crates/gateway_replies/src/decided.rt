@@ -9,17 +9,20 @@ use crate::contexts::Contexts;
 use crate::ending::ending_of;
 use crate::hook::ReplyHook;
 use crate::joined::joined;
+use crate::label::RequestLabel;
 use crate::reply::{Reply, reply_of_call};
 use gateway_model::{CallId, CallRecord, Ending};
 use http_pieces::Bytes;
 use std::alloc::{AllocError, Global};
 
-/// The reply to a decided call: an error is told by its hook, and where it succeeded its hook is dropped uncalled.
+/// The reply to a decided call: an error is told by its hook, and where it succeeded its hook is dropped uncalled. The
+/// label is what a log tells of its request.
 pub fn reply_to<H: ReplyHook + Drop>(
     alloc: Global,
     contexts: &mut Contexts<H>,
     id: CallId,
     call: CallRecord,
+    label: RequestLabel,
 ) -> Result<Reply, AllocError>
     requires { is_life id contexts.old.standing.calls ≡ true }
     ensures reply { IfOk result (λ reply. reply ≡ reply_with id (ReplyEntry.Call call)) }
@@ -31,7 +34,7 @@ pub fn reply_to<H: ReplyHook + Drop>(
     ensures once { OnErr result (CallsAtMost (called_on id (ending_for call)) contexts.old.called contexts.new.called) }
 {
     let bytes = bytes_of(alloc, contexts, &id, &call)?;
-    Ok(reply_of_call(id, call, bytes))
+    Ok(reply_of_call(id, call, bytes, label))
 }
 
 /// Its bytes: the error of its last event, or the answers joined.

@@ -9,6 +9,7 @@ mod decided;
 mod ending;
 mod hook;
 mod joined;
+mod label;
 mod reply;
 mod stock;
 
@@ -17,5 +18,6 @@ pub use contexts::Contexts;
 pub use decided::reply_to;
 pub use ending::ending_reply;
 pub use hook::{CallHook, ReplyHook};
+pub use label::RequestLabel;
 pub use reply::{Reply, crowded_reply, judged_reply, refused_reply};
 pub use stock::{HOOKS, Stock};

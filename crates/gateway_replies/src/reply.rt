@@ -6,6 +6,7 @@ ghost use Rattle.gateway_theory.specs.Replies.{reply_with};
 ghost use Rattle.gateway_model.specs.declared.entry.ReplyEntry.{ReplyEntry};
 
 use crate::answers::{crowded, judged, refused};
+use crate::label::RequestLabel;
 use connect_codec::Verdict;
 use gateway_model::{CallId, CallRecord, ReplyBytes, ReplyEntry};
 use http_pieces::{Bytes, Refusal};
@@ -17,6 +18,7 @@ pub struct Reply {
     id: CallId,
     entry: ReplyEntry,
     message: ReplyBytes,
+    label: RequestLabel,
 }
 
 // by hand, so that a drop is one call, where a derived one is written out at each return
@@ -26,6 +28,7 @@ impl Drop for Reply {
             id: _,
             entry: _,
             message: _,
+            label: _,
         } = self;
     }
 }
@@ -64,15 +67,21 @@ impl Reply {
         self.message.bytes.as_slice()
     }
 
-    /// The request that it answers, what that is answered by, and the bytes to be written.
-    pub fn into_parts(self) -> (CallId, ReplyEntry, Bytes)
+    /// The request that it answers, what that is answered by, the bytes to be written, and what a log tells of the
+    /// request.
+    pub fn into_parts(self) -> (CallId, ReplyEntry, Bytes, RequestLabel)
         ensures id { result.0 ≡ self.id }
         ensures entry { result.1 ≡ self.entry }
         ensures bytes { result.2 ≡ (answer_of self.entry).bytes }
     {
-        let Reply { id, entry, message } = self;
+        let Reply {
+            id,
+            entry,
+            message,
+            label,
+        } = self;
         let ReplyBytes { bytes, last: _ } = message;
-        (id, entry, bytes)
+        (id, entry, bytes, label)
     }
 
     /// Whether it is the connection's last: no request behind it is read.
@@ -92,15 +101,17 @@ pub fn refused_reply(alloc: Global, id: CallId, refusal: Refusal) -> Result<Repl
         id,
         entry: ReplyEntry::Refused(refusal),
         message,
+        label: RequestLabel::Nothing,
     })
 }
 
-/// The reply to a request that is no call.
+/// The reply to a request that is no call, of which a log tells this.
 pub fn judged_reply(
     alloc: Global,
     id: CallId,
     verdict: Verdict,
     last: bool,
+    label: RequestLabel,
 ) -> Result<Reply, AllocError>
     requires no_call { is_ask verdict ≡ false }
     requires bare { HasBareStatus verdict }
@@ -111,11 +122,17 @@ pub fn judged_reply(
         id,
         entry: ReplyEntry::Judged(verdict, last),
         message,
+        label,
     })
 }
 
-/// The reply to a call too many.
-pub fn crowded_reply(alloc: Global, id: CallId, last: bool) -> Result<Reply, AllocError>
+/// The reply to a call too many, of which a log tells this.
+pub fn crowded_reply(
+    alloc: Global,
+    id: CallId,
+    last: bool,
+    label: RequestLabel,
+) -> Result<Reply, AllocError>
     ensures { IfOk result (λ reply. reply ≡ reply_with id (ReplyEntry.Crowded last)) }
 {
     let message = crowded(alloc, last)?;
@@ -123,11 +140,17 @@ pub fn crowded_reply(alloc: Global, id: CallId, last: bool) -> Result<Reply, All
         id,
         entry: ReplyEntry::Crowded(last),
         message,
+        label,
     })
 }
 
-/// The reply to a decided call.
-pub(crate) fn reply_of_call(id: CallId, call: CallRecord, bytes: Bytes) -> Reply
+/// The reply to a decided call, of which a log tells this.
+pub(crate) fn reply_of_call(
+    id: CallId,
+    call: CallRecord,
+    bytes: Bytes,
+    label: RequestLabel,
+) -> Reply
     requires { bytes ≡ (call_reply call).bytes }
     ensures { result ≡ reply_with id (ReplyEntry.Call call) }
 {
@@ -136,5 +159,6 @@ pub(crate) fn reply_of_call(id: CallId, call: CallRecord, bytes: Bytes) -> Reply
         id,
         entry: ReplyEntry::Call(call),
         message: ReplyBytes { bytes, last },
+        label,
     }
 }

@@ -1,6 +1,6 @@
 use crate::stream::{MemoryEnd, MemoryStream, memory_stream};
 use branch_causes::Cause;
-use gateway_core::{CallId, ReplyEntry};
+use gateway_core::{CallId, ConnId, ReplyEntry, RequestLabel};
 use gateway_loop::{BranchEnd, Network};
 use http_server::Log;
 use std::alloc::{AllocError, Global};
@@ -21,6 +21,8 @@ pub struct ScriptedNetwork {
     watched: Vec<(usize, bool)>,
     looked_up: Vec<String>,
     told: Vec<CallId>,
+    labels: Option<Vec<(Option<String>, Option<String>)>>,
+    broken: Vec<ConnId>,
     ended: Vec<(u32, Cause)>,
     unserved: u64,
     watches: u64,
@@ -41,6 +43,8 @@ impl ScriptedNetwork {
             watched: Vec::new(alloc),
             looked_up: Vec::new(alloc),
             told: Vec::new(alloc),
+            labels: None,
+            broken: Vec::new(alloc),
             ended: Vec::new(alloc),
             unserved: 0,
             watches: 0,
@@ -117,6 +121,29 @@ impl ScriptedNetwork {
     pub fn told(&self) -> &[CallId] {
         self.told.as_slice()
     }
+
+    /// Keeps what a log tells of each request whose reply is written from now on.
+    pub fn keep_labels(&mut self) {
+        self.labels = Some(Vec::new(self.alloc));
+    }
+
+    /// For each of those, in order, its target and its id.
+    pub fn labels(&self) -> &[(Option<String>, Option<String>)] {
+        match &self.labels {
+            Some(labels) => labels.as_slice(),
+            None => &[],
+        }
+    }
+
+    /// The connections that were told to have broken, in order.
+    pub fn broken(&self) -> &[ConnId] {
+        self.broken.as_slice()
+    }
+}
+
+/// A copy of the text, if there is one and memory for it.
+fn copied(alloc: Global, text: Option<&str>) -> Option<String> {
+    String::from_str(alloc, text?).ok()
 }
 
 impl Network<Told<MemoryStream>> for ScriptedNetwork {
@@ -157,8 +184,22 @@ impl Network<Told<MemoryStream>> for ScriptedNetwork {
         }
     }
 
-    fn tell_reply(&mut self, id: CallId, _entry: &ReplyEntry) {
+    fn tell_reply(
+        &mut self,
+        _client: &Told<MemoryStream>,
+        id: CallId,
+        _entry: &ReplyEntry,
+        label: &RequestLabel,
+    ) {
         let _ = self.told.push(id);
+        if let Some(labels) = &mut self.labels {
+            let target = copied(self.alloc, label.target());
+            let _ = labels.push((target, copied(self.alloc, label.id())));
+        }
+    }
+
+    fn tell_broken(&mut self, _client: &Told<MemoryStream>, conn: ConnId) {
+        let _ = self.broken.push(conn);
     }
 
     fn tell_unserved(&mut self) {

@@ -30,7 +30,8 @@ use call_plan::{Plan, Plans};
 use connect_codec::laws::timeout_law;
 use connect_codec::{Verdict, judge, target_path};
 use gateway_replies::{
-    ArrivedCall, Reply, ReplyHook, crowded_reply, judged_reply, refused_reply, reply_to,
+    ArrivedCall, Reply, ReplyHook, RequestLabel, crowded_reply, judged_reply, refused_reply,
+    reply_to,
 };
 use gateway_theory::StepFault;
 use http_pieces::{Refusal, Request, State};
@@ -110,7 +111,9 @@ impl Connection {
                 None => unreachable!(),
             },
             verdict => {
-                let reply = judged_reply(shared.alloc, self.next_id(), verdict, request.closes())?;
+                let label = RequestLabel::of_request(shared.alloc, &request);
+                let last = request.closes();
+                let reply = judged_reply(shared.alloc, self.next_id(), verdict, last, label)?;
                 Ok(Arriving::Answered(reply))
             }
         }
@@ -131,14 +134,16 @@ impl Connection {
         self.held_law();
         let id = self.next_id();
         if self.is_full() {
-            let reply = crowded_reply(shared.alloc, id, asked.request.closes())?;
+            let label = RequestLabel::of_request(shared.alloc, &asked.request);
+            let reply = crowded_reply(shared.alloc, id, asked.request.closes(), label)?;
             return Ok(Arriving::Answered(reply));
         }
         shared.contexts.begin(&id, &asked, shared.moment)?;
         match shared.contexts.ending(&id, shared.moment) {
             Some(event) => {
+                let label = RequestLabel::of_call(&asked.request_id);
                 let call = asked.end(shared.alloc, event)?;
-                let reply = reply_to(shared.alloc, &mut shared.contexts, id, call)?;
+                let reply = reply_to(shared.alloc, &mut shared.contexts, id, call, label)?;
                 Ok(Arriving::Answered(reply))
             }
             None => {

@@ -18,7 +18,7 @@ use crate::shared::Shared;
 use crate::task::Task;
 use connect_codec::Outcome;
 use gateway_model::CallRecord;
-use gateway_replies::{ReplyHook, reply_to};
+use gateway_replies::{ReplyHook, RequestLabel, reply_to};
 use gateway_theory::Took;
 use std::alloc::AllocError;
 
@@ -109,14 +109,22 @@ impl Connection {
         ensures err { OnErr result (Unsettled index branch self.old self.new shared.old shared.new) }
     {
         self.held_law();
+        let label = self.label_at(index);
         let taken = self.take_at(shared, index, branch, outcome)?;
         let Some(decided) = taken else {
             return Ok(());
         };
         let id = self.calls[index].id();
-        let reply = reply_to(shared.alloc, &mut shared.contexts, id, decided)?;
+        let reply = reply_to(shared.alloc, &mut shared.contexts, id, decided, label)?;
         self.fill(reply);
         Ok(())
+    }
+
+    /// What a log tells of the request of the call at that place.
+    fn label_at(&self, index: usize) -> RequestLabel
+        requires { index < length self.now.calls }
+    {
+        self.calls[index].label()
     }
 
     /// The call makes its step, and its record is given, if that decides it. Where memory is refused nothing changes.

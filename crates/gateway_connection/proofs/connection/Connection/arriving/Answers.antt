@@ -54,7 +54,7 @@ returns-in_ok-reply-in_default-clause-ok g c =
       comes = (
         ap (λ (r : ReplyValue). r.id) c.in_ok-reply-in_default.ensures ∙ c.next_id.ensures,
         ap (λ a. arriving_in c.args.shared.now.moment c.args.shared.now.contexts.standing.drained (Request c.args.request a) c.args.self.now) judged
-            ∙ ap (λ last. step_to gone (Some (Judged c.in_ok-verdict.verdict last)) []) (sym c.closes.ensures)
+            ∙ ap (λ last. step_to gone (Some (Judged c.in_ok-verdict.verdict last)) []) (sym c.closes-last.ensures)
             ∙ sym (ap (λ (r : ReplyValue). step_to gone (Some r.entry) []) c.in_ok-reply-in_default.ensures),
       );
       contexts = refl;

@@ -6,7 +6,7 @@ use Rattle.gateway_loop.proofs.client.Client.send.Goals as goal
 pub returns-then-is_empty-2-clause-grows : goal.returns-then-is_empty-2-clause-grows
 returns-then-is_empty-2-clause-grows g c =
     let e = c.in-Bytes.ensures in
-    rw (← c.self.view_is) (grows_by _ _ _ _ _ _ _ _ _ _ _ _ _ (no_more _ _ e.given) e.got.2)
+    rw (c.tell.ensures.same, ← c.self.view_is) (grows_by _ _ _ _ _ _ _ _ _ _ _ _ _ (no_more _ _ e.given) e.got.2)
 
 pub returns-else-is_empty-2-clause-grows : goal.returns-else-is_empty-2-clause-grows
 returns-else-is_empty-2-clause-grows g c =
@@ -48,12 +48,12 @@ returns-in-Interrupted-clause-grows g c =
 pub returns-in-Failed-clause-fits : goal.returns-in-Failed-clause-fits
 returns-in-Failed-clause-fits g c =
     let e = c.in-Failed.ensures in
-    rw (← c.self.view_is) (fits_still _ _ _ _ _ _ _ _ _ e.given e.got e.ended)
+    rw (c.tell-in-Failed.ensures.same, ← c.self.view_is) (fits_still _ _ _ _ _ _ _ _ _ e.given e.got e.ended)
 
 pub returns-in-Failed-clause-grows : goal.returns-in-Failed-clause-grows
 returns-in-Failed-clause-grows g c =
     let e = c.in-Failed.ensures in
-    rw (← c.self.view_is) (grows_by _ _ _ _ _ _ _ _ _ _ _ _ _ (no_more _ _ e.given) (no_more _ _ e.got))
+    rw (c.tell-in-Failed.ensures.same, ← c.self.view_is) (grows_by _ _ _ _ _ _ _ _ _ _ _ _ _ (no_more _ _ e.given) (no_more _ _ e.got))
 
 pub invariant_of-self : goal.invariant_of-self
 invariant_of-self g c = λ reads. c.in-Bytes.ensures.ended ∙ c.self.invariant reads

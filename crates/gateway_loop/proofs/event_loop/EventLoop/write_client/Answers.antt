@@ -17,13 +17,13 @@ pub returns-then-eq-2-clause-goes : goal.returns-then-eq-2-clause-goes
 returns-then-eq-2-clause-goes g c = rw (← c.self.view_is) (goes_then _ _ _ c.write-written.ensures.goes c.drop_client.ensures.goes)
 
 pub returns-then-eq-2-clause-told : goal.returns-then-eq-2-clause-told
-returns-then-eq-2-clause-told g c = λ u is. rw (c.drop_client.ensures.told, c.write-written.ensures.told, c.write-written.ensures.same, c.self.view_is) is
+returns-then-eq-2-clause-told g c = λ u is. rw (c.drop_client.ensures.told, c.tell_broken.ensures, c.write-written.ensures.told, c.write-written.ensures.same, c.self.view_is) is
 
 pub returns-then-is_to_leave-clause-goes : goal.returns-then-is_to_leave-clause-goes
 returns-then-is_to_leave-clause-goes g c = rw (← c.self.view_is) (goes_then _ _ _ c.write-written.ensures.goes c.leave.ensures.goes)
 
 pub returns-then-is_to_leave-clause-told : goal.returns-then-is_to_leave-clause-told
-returns-then-is_to_leave-clause-told g c = λ u is. rw (c.leave.ensures.told, c.write-written.ensures.told, c.write-written.ensures.same, c.self.view_is) is
+returns-then-is_to_leave-clause-told g c = λ u is. rw (c.leave.ensures.told, c.tell_broken-then-is_to_leave.ensures, c.write-written.ensures.told, c.write-written.ensures.same, c.self.view_is) is
 
 pub returns-then-eq-3-clause-goes : goal.returns-then-eq-3-clause-goes
 returns-then-eq-3-clause-goes g c = rw (← c.self.view_is) (goes_then _ _ _ c.write-written.ensures.goes c.line_up-then-eq-3.ensures.goes)
