@@ -258,7 +258,7 @@ impl Connection {
     }
 
     /// The id of its next request.
-    pub(crate) fn next_id(&self) -> CallId
+    pub fn next_id(&self) -> CallId
         ensures { result ≡ next_held self.now }
     {
         CallId {

@@ -1,7 +1,9 @@
 ghost use Rattle.std.specs.Prelude.{◌≡◌, ◌==◌, ◌∷◌, ◌++◌, ◌<◌, ◌≤◌, [], Err, IfOk, IfErr, IfSome, None, OnErr, OnOk, Some, false, not, ℕ, List, length, option_map, option_to_list, true, is_some, slice_get};
 ghost use Rattle.connect_codec.specs.declared.answer.Outcome.{Outcome as Outcomes};
-ghost use Rattle.gateway_theory.specs.Gateway.{conn_count, jobs_of, next_reply, open_count, untaken_of, with_jobs};
-ghost use Rattle.gateway_theory.specs.Values.{moment_after, shown};
+ghost use Rattle.std.specs.Option.{option_map_or};
+ghost use Rattle.gateway_theory.specs.Held.{next_held};
+ghost use Rattle.gateway_theory.specs.Gateway.{conn_count, jobs_of, next_reply, open_count, open_of, untaken_of, with_jobs};
+ghost use Rattle.gateway_theory.specs.Values.{HeldConnection, moment_after, shown};
 ghost use Rattle.gateway_theory.specs.Serving.{TakesSome, WouldBegin, Breaks, CountsCalls, HasFewCalls, IsServing, NotListening, Keeps, KeepsBut, TakesOnly, TellsStep};
 ghost use Rattle.gateway_theory.specs.Refused.{RefusesOpening};
 ghost use Rattle.gateway_theory.specs.Tally.{tally_of};
@@ -328,6 +330,16 @@ impl<H: ReplyHook + Drop> Core<H> {
         match self.conns.get(&conn.number()) {
             Some(held) => held.untaken(),
             None => 0,
+        }
+    }
+
+    /// How many requests of the connection were read so far; 0 where it is not open.
+    pub fn requests(&self, conn: ConnId) -> u64
+        ensures { result ≡ option_map_or (λ (k : HeldConnection). (next_held k).request) (open_of conn self.now) 0 }
+    {
+        match self.conns.get(&conn.number()) {
+            Some(held) if !held.is_closed() => held.next_id().request,
+            _ => 0,
         }
     }
 

@@ -128,14 +128,9 @@ impl<W: Wire> Client<W> {
         self.outbox.is_empty() && core.untaken(self.conn) == 0 && core.ended(self.conn)
     }
 
-    /// Whether each of its requests has its reply, and that was taken.
-    pub(crate) fn is_owed_nothing<H: ReplyHook + Drop>(&self, core: &Core<H>) -> bool {
-        core.is_idle(self.conn) && core.untaken(self.conn) == 0
-    }
-
     /// Whether each of its requests has its reply, and that was written.
     pub(crate) fn is_idle<H: ReplyHook + Drop>(&self, core: &Core<H>) -> bool {
-        self.is_owed_nothing(core) && self.outbox.is_empty()
+        core.is_idle(self.conn) && core.untaken(self.conn) == 0 && self.outbox.is_empty()
     }
 
     /// Reads once, unless it brings nothing more, and hands on what came; if its connection was closed, it is dropped.

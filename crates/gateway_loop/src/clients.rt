@@ -287,9 +287,12 @@ impl<H: ReplyHook + Drop, W: Wire + Drop> Clients<H, W> {
         matches!(self.clients.get(place), Some(client) if client.is_to_leave(&self.core))
     }
 
-    /// Whether each request of the client in that place has its reply, and that was taken.
-    pub(crate) fn is_owed_nothing(&self, place: usize) -> bool {
-        matches!(self.clients.get(place), Some(client) if client.is_owed_nothing(&self.core))
+    /// How many requests of the client in that place were read so far.
+    pub(crate) fn requests(&self, place: usize) -> u64 {
+        match self.clients.get(place) {
+            Some(client) => self.core.requests(client.conn()),
+            None => 0,
+        }
     }
 
     /// Whether nothing is owed to the client in that place: each of its requests has its reply, and that was written.

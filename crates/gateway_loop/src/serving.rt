@@ -101,7 +101,7 @@ impl<H: ReplyHook + Drop, W: Wire + Drop> EventLoop<H, W> {
     }
 
     /// Reads the stream of the client in that place, if it is to be read. Notes whether a piece that it brought made no
-    /// request.
+    /// request, whatever is owed to it.
     fn read_client(&mut self, place: usize) -> Heard
         ensures goes { Goes self.old self.new }
         ensures told { self.new.side.told ≡ self.old.side.told }
@@ -112,9 +112,10 @@ impl<H: ReplyHook + Drop, W: Wire + Drop> EventLoop<H, W> {
         let Some(hints) = self.roster.client(place) else {
             return Heard::Nothing;
         };
+        let requests = self.exchanges.clients().requests(place);
         let heard = self.exchanges.read(place, &mut hints.edges);
         if heard == Heard::Piece {
-            hints.is_half_read = self.exchanges.clients().is_owed_nothing(place);
+            hints.is_half_read = self.exchanges.clients().requests(place) == requests;
         }
         heard
     }
