@@ -29,11 +29,14 @@ impl BranchCounts {
         Ok(BranchCounts { counts })
     }
 
-    /// Counts what came of the branch in that place, after so many milliseconds.
+    /// Counts what came of the branch in that place, after so many milliseconds, if its backend was asked.
     pub(crate) fn count(&self, place: usize, cause: Cause, took: u64) {
+        let Some(cause) = place_of_cause(cause) else {
+            return;
+        };
         if let Some(counts) = self.counts.get(place) {
-            add(&counts.ended, place_of_cause(cause), 1);
-            add(&counts.milliseconds, place_of_cause(cause), took);
+            add(&counts.ended, cause, 1);
+            add(&counts.milliseconds, cause, took);
         }
     }
 

@@ -59,7 +59,7 @@ impl LoopCounts {
     }
 
     /// Counts what ended the asking for the branch with that number of the plan with that path, after so many
-    /// milliseconds.
+    /// milliseconds. One whose backend was never asked is not counted.
     pub fn count_branch(&self, plan: &str, number: u32, cause: Cause, took: u64) {
         if let Some(place) = self.names.place_of_branch(plan, number) {
             self.branches.count(place, cause, took);

@@ -1,7 +1,7 @@
-ghost use Rattle.std.specs.Prelude.{◌≡◌, ◌<◌, ◌≤◌, slice_index_or, ℕ};
+ghost use Rattle.std.specs.Prelude.{◌≡◌, ◌<◌, ◌≤◌, ◌↔◌, IfSome, None as Nothing, slice_index_or, ℕ};
 ghost use Rattle.access_log.specs.declared.ending.Ended.TheVariants.{Refusal};
 ghost use Rattle.admin.specs.declared.totals.TheConstants.{ALL_CAUSES, ALL_ENDINGS, MOST_MILLISECONDS};
-ghost use Rattle.branch_causes.specs.declared.cause.Cause.TheVariants.{Failed};
+ghost use Rattle.branch_causes.specs.declared.cause.Cause.TheVariants.{Failed, NeverAsked};
 
 use access_log::Ended;
 use branch_causes::Cause;
@@ -14,7 +14,7 @@ pub const MOST_MILLISECONDS: [u64; 13] = [
 /// So many kinds of endings there are.
 pub(crate) const ENDINGS: usize = 9;
 
-/// So many causes there are that end the asking of a backend.
+/// So many causes there are that end the asking of a backend; `NeverAsked` is none of them.
 pub(crate) const CAUSES: usize = 23;
 
 /// What came of the replies to the calls of one plan, or to those that are no call.
@@ -85,18 +85,21 @@ pub(crate) const ALL_CAUSES: [Cause; CAUSES] = [
     Cause::NoByte,
 ];
 
-/// The place of the cause among those that are counted: there it is told again.
-pub(crate) fn place_of_cause(cause: Cause) -> usize
-    ensures within { result < 23 }
-    ensures its { slice_index_or ALL_CAUSES result Failed ≡ cause }
+/// The place of the cause among those that are counted: there it is told again. None of a branch that was never asked,
+/// which is not counted.
+pub(crate) fn place_of_cause(cause: Cause) -> Option<usize>
+    ensures within { IfSome result (λ place. place < 23) }
+    ensures its { IfSome result (λ place. slice_index_or ALL_CAUSES place Failed ≡ cause) }
+    ensures asked { (result ≡ Nothing) ↔ (cause ≡ NeverAsked) }
 {
-    match cause {
+    let place = match cause {
         Cause::Answer => 0,
         Cause::Status => 1,
         Cause::ContentType => 2,
         Cause::NotJson => 3,
         Cause::Deadline => 4,
         Cause::NotWanted => 5,
+        Cause::NeverAsked => return None,
         Cause::Drained => 6,
         Cause::NoSuchName => 7,
         Cause::Refused => 8,
@@ -114,7 +117,8 @@ pub(crate) fn place_of_cause(cause: Cause) -> usize
         Cause::NoMemory => 20,
         Cause::NoPort => 21,
         Cause::NoByte => 22,
-    }
+    };
+    Some(place)
 }
 
 /// The endings in the order of their places.

@@ -17,7 +17,7 @@ use Rattle.branch_exchange.specs.declared.exchange_end.Loss.{Loss}
 use Rattle.branch_exchange.specs.declared.exchange_end.Loss.TheVariants as loss
 use Rattle.branch_causes.specs.declared.cause.Cause.{Cause}
 use Rattle.branch_causes.specs.declared.cause.Cause.TheVariants.{Answer, Status, ContentType, NotJson, Deadline}
-use Rattle.branch_causes.specs.declared.cause.Cause.TheVariants.{NotWanted, Drained, NoSuchName, Refused, NoRoute}
+use Rattle.branch_causes.specs.declared.cause.Cause.TheVariants.{NotWanted, NeverAsked, Drained, NoSuchName, Refused, NoRoute}
 use Rattle.branch_causes.specs.declared.cause.Cause.TheVariants.{NoPort, NoConnection, Reset, Failed, NoByte, ClosedEarly}
 use Rattle.branch_causes.specs.declared.cause.Cause.TheVariants.{BeforeRequest, BadHead, NoFixedLength, TooLong}
 use Rattle.branch_causes.specs.declared.cause.Cause.TheVariants.{TooManyPieces, NoDescriptor, NoMemory}
@@ -67,6 +67,7 @@ cause_name ContentType = codes "unexpected content type"
 cause_name NotJson = codes "not JSON"
 cause_name Deadline = codes "deadline"
 cause_name NotWanted = codes "not wanted any more"
+cause_name NeverAsked = codes "never asked"
 cause_name Drained = codes "drained"
 cause_name NoSuchName = codes "no such name"
 cause_name Refused = codes "refused"

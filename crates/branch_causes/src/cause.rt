@@ -24,6 +24,8 @@ pub enum Cause {
     Deadline,
     /// Its call had ended, or its client was gone.
     NotWanted,
+    /// Its call had ended, or its client was gone, before it got a place: its backend was not asked.
+    NeverAsked,
     /// The gateway was drained.
     Drained,
     /// Its address is a name that was not found.
@@ -83,6 +85,7 @@ impl Cause {
             Cause::NotJson => "not JSON",
             Cause::Deadline => "deadline",
             Cause::NotWanted => "not wanted any more",
+            Cause::NeverAsked => "never asked",
             Cause::Drained => "drained",
             Cause::NoSuchName => "no such name",
             Cause::Refused => "refused",

@@ -41,6 +41,17 @@ impl Ends {
         let _ = self.waiting.push_back(end);
     }
 
+    /// Keeps what came of a branch whose backend was never asked, until it is told. For want of memory it is not.
+    pub(crate) fn keep_unasked(&mut self, end: Option<BranchEnd>) {
+        let Some(mut end) = end else {
+            return;
+        };
+        if end.cause == Cause::NotWanted {
+            end.cause = Cause::NeverAsked;
+        }
+        let _ = self.waiting.push_back(end);
+    }
+
     /// Tells what came of branches.
     pub(crate) fn tell<W: Wire, N: Network<W>>(&mut self, net: &mut N)
         ensures { N.told net.new ≡ N.told net.old }

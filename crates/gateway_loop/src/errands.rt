@@ -66,14 +66,15 @@ impl<H: ReplyHook + Drop, W: Wire + Drop> EventLoop<H, W> {
         self.roster.client_of(job.call().conn)
     }
 
-    /// The new exchange in that place is lost by this before anything else knows of it; None for want of memory.
+    /// The new exchange in that place is lost by this before anything else knows of it; None for want of memory. Where
+    /// nobody waits for it any more, its backend was never asked.
     fn drop_new(&mut self, place: usize, loss: Option<Loss>)
         ensures goes { Goes self.old self.new }
         ensures told { self.new.side.told ≡ self.old.side.told }
     {
         self.exchanges.lose(place, loss);
         let finished = self.exchanges.finish(place);
-        self.ends.keep(finished.map(|finished| finished.0), 0);
+        self.ends.keep_unasked(finished.map(|finished| finished.0));
     }
 
     /// Has the address of the exchange in that place looked up.
