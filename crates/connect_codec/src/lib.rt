@@ -7,7 +7,6 @@ mod ask;
 mod branch;
 mod head;
 mod headers;
-mod json;
 pub mod laws;
 mod meaning;
 mod path;

@@ -3,10 +3,10 @@ ghost use Rattle.connect_codec.specs.Outcome.{outcome_of, outcome_of_success, fa
 
 use crate::answer::Outcome;
 use crate::headers::is_json_type;
-use crate::json::is_json;
 use error_document::{Code, RpcError};
 use http::StatusCode;
 use http_pieces::{Bytes, HttpReply};
+use json_values::is_json;
 use std::alloc::{AllocError, Global};
 
 /// What a backend's reply means; None is a reply that was lost. Status 200 with a body of JSON, whose

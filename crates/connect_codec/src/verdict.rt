@@ -5,9 +5,9 @@ ghost use Rattle.connect_codec.specs.Reply.{is_bare_status};
 ghost use Rattle.connect_codec.specs.Verdict.{verdict_of, protocol_verdict, failure, HasBareStatus};
 
 use crate::headers::{is_known_version, is_plain, names_json, request_id};
-use crate::json::is_json;
 use error_document::{Code, RpcError};
 use http_pieces::{Bytes, Request};
+use json_values::is_json;
 use std::alloc::{AllocError, Global};
 
 /// What a request is.
