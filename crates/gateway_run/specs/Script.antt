@@ -77,7 +77,7 @@ branch_result_of reply d =
 unfoldable pub reply_of : Data → Option HttpReply
 reply_of d =
     option_and_then (λ status. option_and_then (λ content_type. option_map (λ body.
-    record { status = status; content_type = content_type; body = body })
+    record { status = status; content_type = content_type; closes = false; body = body })
     (text_at 6 d)) (content_type_at 5 d)) (status_at 4 d)
 
 -- `["result",c,k,branch,status,type,body]`: a branch ends with that reply

@@ -189,6 +189,7 @@ fn reply_of(alloc: Global, entry: &Value) -> Result<Option<HttpReply>, AllocErro
     Ok(Some(HttpReply {
         status,
         content_type,
+        closes: false,
         body,
     }))
 }

@@ -228,7 +228,7 @@ fails k i code message = Result (call_id 0 k) i (Fail (error code message))
 
 -- a backend's reply
 abbrev pub backend_reply : ℕ → List ℕ → List ℕ → HttpReply
-backend_reply status type body = record { status = status; content_type = Some type; body = body }
+backend_reply status type body = record { status = status; content_type = Some type; closes = false; body = body }
 
 -- what a backend's reply with a body of JSON is to its call
 abbrev pub outcome_at : ℕ → List ℕ → Outcome

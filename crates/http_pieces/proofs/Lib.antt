@@ -12,3 +12,4 @@ pub mod ReplyLemmas
 pub mod RequestsLemmas
 pub mod ScanLemmas
 pub mod Existence
+mod Rows

@@ -20,7 +20,7 @@ use Rattle.http_pieces.specs.Form.{IsHeadOf, IsPhaseSound, IsMore, Grows, Advanc
 use Rattle.http_pieces.specs.Form as form
 use Rattle.http_pieces.specs.Head.{stated_length}
 use Rattle.http_pieces.specs.Looked.{Counts, HasLooked}
-use Rattle.http_pieces.specs.ReplyHead.{length_by_number, length_by_fields, reply_length, one_value, reply_with, asks_by_length, reply_kind}
+use Rattle.http_pieces.specs.ReplyHead.{length_by_number, length_by_fields, reply_length, one_value, closes_after, reply_with, asks_by_length, reply_kind}
 use Rattle.http_pieces.specs.ReplyLayout.{IsReplyHeadAt, reply_of, reply_form, reply_single, reply_reading_of, reply_value_of}
 use Rattle.http_pieces.specs.ReplyReader.{ReplyReading, ReplyReaderValue, Partial, Waiting, Stopped, Done, HasReadReply, HasReadReplyTo, IsShortestReply, TakesShortestReply, is_over_reply, left_of_reply}
 use Rattle.http_pieces.proofs.CutLemmas.{skip_append, kind_unique, kind_complete_append, kind_refused_append}
@@ -50,15 +50,17 @@ length_stated status [] field.Many is some = absurd (omega (arith, is))
 length_stated status (v ∷ values) f is some = refl
 
 -- a head that asks for a body
-pub judged_reply : (block : List ℕ) (headers : List HeaderSpan) (status : ℕ) (content_type : Option (List ℕ)) (h : ResponseHead) (size : ℕ)
-    → IsReplyHeadAt block headers status h → Ok size ≡ reply_length status (map (header_bytes block) headers)
+pub judged_reply : (block : List ℕ) (headers : List HeaderSpan) (status minor : ℕ) (content_type : Option (List ℕ)) (closes : Bool) (h : ResponseHead) (size : ℕ)
+    → IsReplyHeadAt block headers status minor h → Ok size ≡ reply_length status (map (header_bytes block) headers)
     → content_type ≡ one_value (values_of (codes "content-type") (map (header_bytes block) headers))
-    → IsHeadOf reply_form block (record { status = status; content_type = content_type }) size
-judged_reply block headers status content_type h size at e type_is =
+    → closes ≡ closes_after minor (map (header_bytes block) headers)
+    → IsHeadOf reply_form block (record { status = status; content_type = content_type; closes = closes }) size
+judged_reply block headers status minor content_type closes h size at e type_is closes_is =
     let same : reply_length (status_code h) (map name_and_value h.fields) ≡ Ok size = rw (← at.status_is, ← at.fields) (sym e) in
     let type_of : content_type ≡ one_value (values_of (codes "content-type") (map name_and_value h.fields)) = rw (← at.fields) type_is in
-    let whole : (body : List ℕ) → reply_of (block ++ body) (record { status = status; content_type = content_type }) (length block) ≡ reply_with h body =
-    λ body i. record { status = at.status_is i; content_type = type_of i; body = drop-append_seam block body i } in
+    let closing : closes ≡ closes_after h.minor (map name_and_value h.fields) = rw (← at.minor_is, ← at.fields) closes_is in
+    let whole : (body : List ℕ) → reply_of (block ++ body) (record { status = status; content_type = content_type; closes = closes }) (length block) ≡ reply_with h body =
+    λ body i. record { status = at.status_is i; content_type = type_of i; closes = closing i; body = drop-append_seam block body i } in
     record {
       asks = λ k. record {
         head = h;

@@ -6,7 +6,7 @@ use Rattle.http_pieces.specs.declared.reply.HttpReply.{HttpReply}
 use Rattle.http_pieces.specs.declared.reply_fault.ReplyFault.{ReplyFault}
 use Rattle.http_pieces.specs.declared.reply_fault.ReplyFault.TheVariants as fault
 use Rattle.http_pieces.specs.Cut.{Asks, Refusal, Body, Kind}
-use Rattle.http_pieces.specs.Fields.{NamedValue, values_of}
+use Rattle.http_pieces.specs.Fields.{NamedValue, values_of, asks_to_close}
 use Rattle.http_pieces.specs.Head.{most_fields, most_body, is_absent, stated_length}
 
 -- the status of a final reply, of three digits: those from 100 to 199 are interim (RFC 9110, sections 15 and 15.2)
@@ -43,11 +43,17 @@ one_value [] = None
 one_value (v ∷ []) = Some v
 one_value (v ∷ w ∷ values) = None
 
+-- the connection ends with a reply of HTTP/1.0, and with one that asks for the close (RFC 9112, section 9.3, which leaves
+-- it to the recipient to honour HTTP/1.0's `keep-alive`: this project does not)
+abbrev pub closes_after : ℕ → List NamedValue → Bool
+closes_after minor fields = (minor == 0) || asks_to_close fields
+
 -- the reply with that head and this body; blanks at both ends of a field's value are no part of it (RFC 9110, section 5.5)
 abbrev pub reply_with : ResponseHead → List ℕ → HttpReply
 reply_with h body = record {
   status = status_code h;
   content_type = one_value (values_of (codes "content-type") (map name_and_value h.fields));
+  closes = closes_after h.minor (map name_and_value h.fields);
   body = body;
 }
 

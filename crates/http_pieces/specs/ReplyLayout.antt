@@ -16,23 +16,24 @@ use Rattle.http_pieces.specs.Looked.{most_looked}
 use Rattle.http_pieces.specs.ReplyHead.{IsReplyBlock, reply_asks, reply_kind}
 use Rattle.http_pieces.specs.ReplyReader.{ReplyReading, ReplyReaderValue, Partial, Waiting, Stopped, Done}
 
--- the block is the head h, of that status, and the spans cover its fields
-pub record IsReplyHeadAt (block : List ℕ) (headers : List HeaderSpan) (status : ℕ) (h : ResponseHead) : Type 0 where
+-- the block is the head h, of that status and minor version, and the spans cover its fields
+pub record IsReplyHeadAt (block : List ℕ) (headers : List HeaderSpan) (status minor : ℕ) (h : ResponseHead) : Type 0 where
   pub within : All (IsHeaderWithin (length block)) headers
   pub block_is : IsReplyBlock block h
   pub status_is : status ≡ status_code h
+  pub minor_is : minor ≡ h.minor
   pub fields : map (header_bytes block) headers ≡ map name_and_value h.fields
 
--- the block's head was read, its status and the number of the fields whose places were written; or it is none
-abbrev pub ReadsReplyHead : List ℕ → List HeaderSpan → Option (ℕ × ℕ) → Type 0
+-- the block's head was read, its status, its minor version and the number of the fields whose places were written; or it is none
+abbrev pub ReadsReplyHead : List ℕ → List HeaderSpan → Option (ℕ × ℕ × ℕ) → Type 0
 ReadsReplyHead block headers None = (h : ResponseHead) → ¬ (IsReplyBlock block h)
-ReadsReplyHead block headers (Some r) = (r.1 ≤ length headers) × ((h : ResponseHead) × IsReplyHeadAt block (take r.1 headers) r.0 h)
+ReadsReplyHead block headers (Some r) = (r.2 ≤ length headers) × ((h : ResponseHead) × IsReplyHeadAt block (take r.2 headers) r.0 r.1 h)
 
 -- the reply of that head, whose body begins at that place
 abbrev pub reply_of : List ℕ → ReplyHead → ℕ → HttpReply
-reply_of bytes head body_at = record { status = head.status; content_type = head.content_type; body = drop body_at bytes }
+reply_of bytes head body_at = record { status = head.status; content_type = head.content_type; closes = head.closes; body = drop body_at bytes }
 
--- replies, whose readers keep the status and the content type; there is one reply in a stream
+-- replies, whose readers keep the status, the content type and whether the connection ends; there is one reply in a stream
 abbrev pub reply_form : Form ReplyFault ReplyHead HttpReply
 reply_form = record { kind = λ k. reply_kind; message = λ bytes head body_at k. reply_of bytes head body_at; IsIn = λ bytes head. Unit {0} }
 

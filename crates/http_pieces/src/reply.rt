@@ -9,6 +9,9 @@ pub struct HttpReply {
     /// The value of the one `Content-Type` field, without blanks at both ends; None where there is no
     /// such field, or more than one.
     pub content_type: Option<Bytes>,
+    /// Whether the connection ends with this reply (RFC 9112, section 9.3): the reply is of HTTP/1.0, or a `Connection`
+    /// field of it has the option `close`.
+    pub closes: bool,
     /// The body: as many bytes as `Content-Length` says, and none where the status is 204 or 304.
     pub body: Bytes,
 }

@@ -2,13 +2,13 @@ ghost use Rattle.std.specs.Prelude.{◌≡◌, ℕ, List, map, length, All, IfOk
 ghost use Rattle.httparse.specs.Spans.{IsHeaderWithin, header_bytes};
 ghost use Rattle.http_pieces.specs.Fields.{IsFieldOf};
 ghost use Rattle.http_pieces.specs.Head.{most_fields};
-ghost use Rattle.http_pieces.specs.ReplyHead.{has_no_content, length_by_fields, length_by_number, one_value, reply_length};
+ghost use Rattle.http_pieces.specs.ReplyHead.{closes_after, has_no_content, length_by_fields, length_by_number, one_value, reply_length};
 ghost use Rattle.http_pieces.specs.ReplyLayout.{ReadsReplyHead};
 
 use crate::bytes::Bytes;
 use crate::field::Field;
 use crate::head::{MAX_BODY, MAX_FIELDS, stated_length};
-use crate::lookup::find_field;
+use crate::lookup::{any_close, find_field};
 use crate::message::Message;
 use crate::reply_fault::ReplyFault;
 use http::StatusCode;
@@ -22,6 +22,8 @@ pub(crate) struct ReplyHead {
     pub(crate) status: StatusCode,
     /// The value of the one `Content-Type` field.
     pub(crate) content_type: Option<Bytes>,
+    /// Whether the connection ends with the reply.
+    pub(crate) closes: bool,
 }
 
 /// Replies, as a kind of message.
@@ -50,7 +52,7 @@ impl Message for Replies {
         block: &[u8],
     ) -> Result<Result<(ReplyHead, u64), ReplyFault>, AllocError> {
         let mut headers = [EMPTY_HEADER_SPAN; MAX_FIELDS];
-        let Some((status, fields)) = read_reply_head(block, &mut headers) else {
+        let Some((status, minor, fields)) = read_reply_head(block, &mut headers) else {
             return Ok(Err(ReplyFault::NotAHead));
         };
         let headers = &headers[..fields];
@@ -62,14 +64,16 @@ impl Message for Replies {
         let head = ReplyHead {
             status,
             content_type,
+            closes: closes_after(minor, block, headers),
         };
         Ok(Ok((head, length)))
     }
 }
 
 /// Reads the block as one head of a final reply, writes where its fields are to the front of
-/// `headers`, and answers its status and how many they are; None where it is no such head.
-fn read_reply_head(block: &[u8], headers: &mut [HeaderSpan]) -> Option<(StatusCode, usize)>
+/// `headers`, and answers its status, its minor version of HTTP/1 and how many fields there are; None
+/// where it is no such head.
+fn read_reply_head(block: &[u8], headers: &mut [HeaderSpan]) -> Option<(StatusCode, u8, usize)>
     requires { length headers.old ≡ most_fields }
     ensures { ReadsReplyHead block.now headers.new result }
 {
@@ -80,7 +84,7 @@ fn read_reply_head(block: &[u8], headers: &mut [HeaderSpan]) -> Option<(StatusCo
         return None;
     }
     match StatusCode::from_u16(spans.code) {
-        Ok(status) => Some((status, spans.headers)),
+        Ok(status) => Some((status, spans.version, spans.headers)),
         Err(_) => None,
     }
 }
@@ -125,6 +129,14 @@ fn has_no_content(status: StatusCode) -> bool
     ensures { result ≡ has_no_content status }
 {
     status.as_u16() == 204 || status.as_u16() == 304
+}
+
+/// Whether the connection ends with a reply of that minor version of HTTP/1.
+fn closes_after(minor: u8, bytes: &[u8], headers: &[HeaderSpan]) -> bool
+    requires { All (IsHeaderWithin (length bytes.now)) headers.now }
+    ensures { result ≡ closes_after minor (map (header_bytes bytes.now) headers.now) }
+{
+    minor == 0 || any_close(bytes, headers)
 }
 
 /// The value of a field that stands once.

@@ -111,6 +111,7 @@ impl ReplyReader {
                 Some(HttpReply {
                     status: head.status,
                     content_type: head.content_type,
+                    closes: head.closes,
                     body: Bytes::from_vec(bytes),
                 })
             }
