@@ -40,10 +40,10 @@ cause_of_kind _ = Failed
 -- why what came is no reply that is taken
 abbrev pub cause_of_fault : ReplyFault → Cause
 cause_of_fault fault.NotAHead = BadHead
-cause_of_fault fault.BadLength = BadHead
-cause_of_fault fault.NotFixedLength = NoFixedLength
+cause_of_fault (fault.BadLength status) = BadHead
+cause_of_fault (fault.NotFixedLength status) = NoFixedLength
 cause_of_fault fault.HeadTooLarge = TooLong
-cause_of_fault fault.BodyTooLarge = TooLong
+cause_of_fault (fault.BodyTooLarge status) = TooLong
 
 -- why no reply came
 abbrev pub cause_of_loss : Loss → Cause
@@ -92,9 +92,18 @@ cause_of_end (ends.Reply reply) = if reply.status == 200 then Answer else Status
 cause_of_end (ends.Lost loss) = cause_of_loss loss
 cause_of_end ends.NoMemory = NoMemory
 
+-- the status of a reply that was refused, if its head was read
+abbrev pub status_of_fault : ReplyFault → Option ℕ
+status_of_fault fault.HeadTooLarge = None
+status_of_fault fault.NotAHead = None
+status_of_fault (fault.NotFixedLength status) = Some status
+status_of_fault (fault.BadLength status) = Some status
+status_of_fault (fault.BodyTooLarge status) = Some status
+
 -- its status
 abbrev pub status_of_end : ExchangeEnd → Option ℕ
 status_of_end (ends.Reply reply) = Some reply.status
+status_of_end (ends.Lost (loss.Refused fault)) = status_of_fault fault
 status_of_end _ = None
 
 -- why a reply of status 200 is no answer, by the error that was recorded

@@ -1,6 +1,6 @@
 ghost use Rattle.std.specs.Prelude.{◌≡◌};
 ghost use Rattle.branch_causes.specs.Causes.{cause_name, cause_of_end, cause_of_failure, cause_of_fault};
-ghost use Rattle.branch_causes.specs.Causes.{cause_of_kind, cause_of_loss, settled, status_of_end};
+ghost use Rattle.branch_causes.specs.Causes.{cause_of_kind, cause_of_loss, settled, status_of_end, status_of_fault};
 
 use branch_exchange::{ExchangeEnd, Loss};
 use connect_codec::Outcome;
@@ -119,13 +119,26 @@ pub fn cause_of_end(end: &ExchangeEnd) -> Cause
     }
 }
 
-/// The status of the reply that an exchange came to.
+/// The status of the reply that an exchange came to, also of one that was refused once its head was read.
 pub fn status_of_end(end: &ExchangeEnd) -> Option<u16>
     ensures { result ≡ status_of_end end.now }
 {
     match end {
         ExchangeEnd::Reply(reply) => Some(reply.status.as_u16()),
+        ExchangeEnd::Lost(Loss::Refused(fault)) => status_of_fault(*fault),
         _ => None,
+    }
+}
+
+/// The status of a reply that was refused, if its head was read.
+fn status_of_fault(fault: ReplyFault) -> Option<u16>
+    ensures { result ≡ status_of_fault fault }
+{
+    match fault {
+        ReplyFault::HeadTooLarge | ReplyFault::NotAHead => None,
+        ReplyFault::NotFixedLength(status)
+        | ReplyFault::BadLength(status)
+        | ReplyFault::BodyTooLarge(status) => Some(status.as_u16()),
     }
 }
 
@@ -183,8 +196,8 @@ fn cause_of_fault(fault: ReplyFault) -> Cause
     ensures { result ≡ cause_of_fault fault }
 {
     match fault {
-        ReplyFault::NotAHead | ReplyFault::BadLength => Cause::BadHead,
-        ReplyFault::NotFixedLength => Cause::NoFixedLength,
-        ReplyFault::HeadTooLarge | ReplyFault::BodyTooLarge => Cause::TooLong,
+        ReplyFault::NotAHead | ReplyFault::BadLength(_) => Cause::BadHead,
+        ReplyFault::NotFixedLength(_) => Cause::NoFixedLength,
+        ReplyFault::HeadTooLarge | ReplyFault::BodyTooLarge(_) => Cause::TooLong,
     }
 }

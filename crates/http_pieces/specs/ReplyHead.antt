@@ -19,14 +19,14 @@ has_no_content status = (status == 204) || (status == 304)
 
 -- the body's length where `Content-Length` is that number, if it is one (RFC 9112, section 6.2)
 abbrev pub length_by_number : ℕ → Option ℕ → Result ℕ ReplyFault
-length_by_number status None = Err fault.BadLength
+length_by_number status None = Err (fault.BadLength status)
 length_by_number status (Some n) =
-    if has_no_content status then Ok 0 else if nat_lt most_body n then Err fault.BodyTooLarge else Ok n
+    if has_no_content status then Ok 0 else if nat_lt most_body n then Err (fault.BodyTooLarge status) else Ok n
 
 -- the body's length where the `Content-Length` fields have these values; without one a body would last to the end of the
 -- connection, and such replies are refused (RFC 9112, section 6.3)
 abbrev pub length_by_fields : ℕ → List (List ℕ) → Result ℕ ReplyFault
-length_by_fields status [] = if has_no_content status then Ok 0 else Err fault.NotFixedLength
+length_by_fields status [] = if has_no_content status then Ok 0 else Err (fault.NotFixedLength status)
 length_by_fields status (v ∷ values) = length_by_number status (stated_length (v ∷ values))
 
 -- the length of the body that follows a head, or its fault: the first that applies of a transfer encoding (RFC 9112, section
@@ -35,7 +35,7 @@ abbrev pub reply_length : ℕ → List NamedValue → Result ℕ ReplyFault
 reply_length status fields =
     if is_absent (values_of (codes "transfer-encoding") fields)
     then length_by_fields status (values_of (codes "content-length") fields)
-    else Err fault.NotFixedLength
+    else Err (fault.NotFixedLength status)
 
 -- the value of a field that stands once
 abbrev pub one_value : List (List ℕ) → Option (List ℕ)

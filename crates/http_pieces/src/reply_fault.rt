@@ -1,4 +1,7 @@
-/// Why a backend's reply is refused. The faults are judged in this order.
+use http::StatusCode;
+
+/// Why a backend's reply is refused. The faults are judged in this order. Where its head was read the fault has its
+/// status.
 #[derive(Clone, Copy, PartialEq, Eq, Debug)]
 pub enum ReplyFault {
     /// 8,192 bytes have come, and the head's end is not among them.
@@ -8,9 +11,9 @@ pub enum ReplyFault {
     NotAHead,
     /// The body's length is not told by `Content-Length` alone: there is a `Transfer-Encoding` field,
     /// or no `Content-Length`, though the status is not 204 or 304.
-    NotFixedLength,
+    NotFixedLength(StatusCode),
     /// `Content-Length` is repeated, or is not 1 to 10 decimal digits.
-    BadLength,
+    BadLength(StatusCode),
     /// The body has more than 65,536 bytes.
-    BodyTooLarge,
+    BodyTooLarge(StatusCode),
 }

@@ -98,7 +98,7 @@ fn reply_length(status: StatusCode, bytes: &[u8], headers: &[HeaderSpan]) -> Res
         find_field(bytes, headers, b"transfer-encoding"),
         Field::None
     ) {
-        return Err(ReplyFault::NotFixedLength);
+        return Err(ReplyFault::NotFixedLength(status));
     }
     length_by_field(status, find_field(bytes, headers, b"content-length"))
 }
@@ -109,7 +109,7 @@ fn length_by_field(status: StatusCode, field: Field<'_>) -> Result<u64, ReplyFau
 {
     match field {
         Field::None if has_no_content(status) => Ok(0),
-        Field::None => Err(ReplyFault::NotFixedLength),
+        Field::None => Err(ReplyFault::NotFixedLength(status)),
         _ => length_by_number(status, stated_length(field)),
     }
 }
@@ -118,9 +118,9 @@ fn length_by_number(status: StatusCode, number: Option<u64>) -> Result<u64, Repl
     ensures { result ≡ length_by_number status number }
 {
     match number {
-        None => Err(ReplyFault::BadLength),
+        None => Err(ReplyFault::BadLength(status)),
         Some(_) if has_no_content(status) => Ok(0),
-        Some(length) if length > MAX_BODY => Err(ReplyFault::BodyTooLarge),
+        Some(length) if length > MAX_BODY => Err(ReplyFault::BodyTooLarge(status)),
         Some(length) => Ok(length),
     }
 }
