@@ -12,6 +12,8 @@ import tempfile
 import traceback
 
 import program_admin
+import program_backends
+import program_container
 import program_ends
 import program_log
 import program_loops
@@ -21,7 +23,8 @@ import program_waits
 from program_room import CASE_TIME, Room, Untried, Wrong
 
 MODULES = [
-    program_admin, program_ends, program_serve, program_places, program_loops, program_waits, program_log,
+    program_admin, program_backends, program_container, program_ends, program_serve, program_places, program_loops,
+    program_waits, program_log,
 ]
 
 
