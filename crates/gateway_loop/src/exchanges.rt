@@ -12,6 +12,7 @@ use crate::limits::{ATTEMPT, MOST_EXCHANGES};
 use crate::moments::is_due;
 use crate::tokens::exchange_token;
 use branch_asking::{Asking, BranchEnd, Edges, Network, Progress};
+use branch_causes::Cause;
 use branch_exchange::Loss;
 use call_plan::Plans;
 use connect_codec::Outcome;
@@ -311,6 +312,7 @@ impl<H: ReplyHook + Drop, W: Wire + Drop> Exchanges<H, W> {
         let mut asking = self.asking.try_remove(place)?;
         let cause = asking.cause();
         let status = asking.status();
+        let is_whole = matches!(cause, Cause::Answer | Cause::Status);
         let outcome = asking.conclude(self.alloc);
         let cause = cause.settled(&outcome);
         self.ended = self.ended.and(&asking, &outcome);
@@ -322,6 +324,6 @@ impl<H: ReplyHook + Drop, W: Wire + Drop> Exchanges<H, W> {
             status,
             took: 0,
         };
-        Some((end, stream.filter(|_| status.is_some())))
+        Some((end, stream.filter(|_| is_whole)))
     }
 }
