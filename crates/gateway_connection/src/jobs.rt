@@ -45,11 +45,11 @@ impl JobQueue {
         self.jobs.len()
     }
 
-    /// The job that is to be taken next, if one waits.
-    pub fn next(&self) -> Option<&Job>
-        ensures { option_map (λ job. job.now.job) result ≡ slice_get self.now.jobs 0 }
+    /// The job in that place of the order, from 0, if so many wait.
+    pub fn get(&self, place: usize) -> Option<&Job>
+        ensures { option_map (λ job. job.now.job) result ≡ slice_get self.now.jobs place }
     {
-        self.jobs.front()
+        self.jobs.get(place)
     }
 
     /// Hands out the next job, if one waits.

@@ -288,11 +288,11 @@ impl<H: ReplyHook + Drop> Core<H> {
         self.shared.jobs.len()
     }
 
-    /// The job that is to be taken next, if one waits.
-    pub fn next_job(&self) -> Option<&Job>
-        ensures { option_map (λ job. job.now.job) result ≡ slice_get (shown self.now).waiting 0 }
+    /// The job that is to be taken once so many others were, if it waits.
+    pub fn waiting_job(&self, place: usize) -> Option<&Job>
+        ensures { option_map (λ job. job.now.job) result ≡ slice_get (shown self.now).waiting place }
     {
-        self.shared.jobs.next()
+        self.shared.jobs.get(place)
     }
 
     /// The least deadline of the undecided calls, and of their branches that are out.
