@@ -16,11 +16,20 @@ const MAX_DEPTH: usize = 127;
 pub fn is_json(alloc: Global, bytes: &[u8]) -> Result<bool, AllocError>
     ensures { IfOk result (λ yes. yes ≡ is_some (json_of bytes.now)) }
 {
+    // made apart from its use: in one function its 16 KB were cleared twice
+    let mut scratch = Scratch::new(alloc);
+    is_json_over(bytes, &mut scratch)
+}
+
+/// The same, over this memory.
+#[inline(never)]
+fn is_json_over(bytes: &[u8], scratch: &mut Scratch) -> Result<bool, AllocError>
+    ensures { IfOk result (λ yes. yes ≡ is_some (json_of bytes.now)) }
+{
     let Ok(text) = from_utf8(bytes) else {
         return Ok(false);
     };
-    let mut scratch = Scratch::new(alloc);
-    let mut reader = Reader::new(text, &mut scratch)?;
+    let mut reader = Reader::new(text, scratch)?;
     if pass_value(&mut reader, MAX_DEPTH).is_err() {
         return Ok(false);
     }

@@ -8,7 +8,7 @@ use Rattle.json.specs.declared.token.Token.{Token}
 use Rattle.json_values.specs.Rest.{after_value}
 use Rattle.json_values.specs.Json.{json_of}
 use Rattle.json_values.proofs.Passing.{no_text, json_passed, json_and_more, json_refused}
-use Rattle.json_values.proofs.check.is_json.Goals as goal
+use Rattle.json_values.proofs.check.is_json_over.Goals as goal
 
 pub returns-in_default : goal.returns-in_default
 returns-in_default c = sym (no_text c.args.bytes.now c.in_default.ensures)
