@@ -1,1 +1,2 @@
+mod Hosts
 mod WarnedLemmas

@@ -1,7 +1,10 @@
 /// What is wrong with a file, or will not work as it seems to be meant. All texts of lines stand here.
 #[derive(Clone, Copy, PartialEq, Eq, Debug)]
 pub(crate) enum Complaint {
-    // of the file as a text
+    // of the file
+    NotThere,
+    NotOpened,
+    // of it as a text
     TooLong,
     Utf16,
     ByteOrderMark,
@@ -15,7 +18,16 @@ pub(crate) enum Complaint {
     Yaml,
     SecondValue,
     NoComma,
-    NotJson,
+    NoColon,
+    NoKey,
+    NoValue,
+    EndsArray,
+    EndsObject,
+    StrayColon,
+    TooDeep,
+    NumberTooLarge,
+    NoText,
+    NoToken,
     // of its shape
     NotPlans,
     NotAScript,
@@ -55,6 +67,11 @@ pub(crate) enum Complaint {
     ZeroTimeout,
     AddressWithSlashes,
     NoHost,
+    HostPlaceholder,
+    HostWildcard,
+    HostUnbracketed,
+    HostEmptyLabel,
+    HostNoIpv4,
     NoSuchPort,
     OwnAddress,
     LimitAboveBranches,
@@ -68,6 +85,8 @@ impl Complaint {
     /// What the line says behind the place.
     pub(crate) fn text(&self) -> &'static str {
         match self {
+            Complaint::NotThere => "there is no such file",
+            Complaint::NotOpened => "the file can't be opened",
             Complaint::TooLong => "a file is at most 16,777,216 bytes long",
             Complaint::Utf16 => "this looks like UTF-16: save the file as UTF-8",
             Complaint::ByteOrderMark => "a byte order mark: save the file as UTF-8 without one",
@@ -84,9 +103,21 @@ impl Complaint {
             Complaint::Yaml => "this looks like YAML: the file is to be JSON",
             Complaint::SecondValue => "the JSON has ended before this: a file holds one value",
             Complaint::NoComma => "a comma is missing before this",
-            Complaint::NotJson => {
-                "here it is no JSON, or nests more than 127 deep, or a number is too large"
+            Complaint::NoColon => "a colon is missing before this",
+            Complaint::NoKey => "a key in double quotes belongs here",
+            Complaint::NoValue => "a value is missing before this",
+            Complaint::EndsArray => "an array is open here, and ends with ]",
+            Complaint::EndsObject => "an object is open here, and ends with }",
+            Complaint::StrayColon => {
+                "a colon stands in an object alone, between a key and its value"
             }
+            Complaint::TooDeep => "arrays and objects nest at most 127 deep",
+            Complaint::NumberTooLarge => "this number is too large",
+            Complaint::NoText => {
+                "this text does not end, or has a tab, the end of a line or a wrong \\ in it"
+            }
+            Complaint::NoToken =>
+                "no text in double quotes, no number, and not true, false or null",
             Complaint::NotPlans => "a plan file is an array of plans",
             Complaint::NotAScript => "a script is an object with the keys plans and events",
             Complaint::NotAnArray => "an array belongs here",
@@ -141,6 +172,21 @@ impl Complaint {
             }
             Complaint::AddressWithSlashes => "a host and a port alone, with no scheme and no //",
             Complaint::NoHost => "there is no host before the :",
+            Complaint::HostPlaceholder => {
+                "a placeholder that nothing has filled in: write the host itself"
+            }
+            Complaint::HostWildcard => {
+                "no wildcards: write a branch for each host, or name a proxy"
+            }
+            Complaint::HostUnbracketed => {
+                "a host has no : in it, but for an IPv6 address in brackets, as [::1]:9001"
+            }
+            Complaint::HostEmptyLabel => {
+                "a part of the host is empty: take out the . before it or behind it"
+            }
+            Complaint::HostNoIpv4 => {
+                "no IPv4 address: that is four numbers from 0 to 255, with no 0 before another digit"
+            }
             Complaint::NoSuchPort => "there are ports from 1 to 65535",
             Complaint::OwnAddress => "here the gateway itself listens",
             Complaint::LimitAboveBranches => "more than the plan has branches",

@@ -2,64 +2,109 @@ ghost use Rattle.std.specs.Prelude.{◌≤◌, length};
 
 use crate::complaint::Complaint;
 use crate::finding::{Finding, Place};
-use crate::structure::is_closed;
-use serde_json::Error;
+use crate::nesting::pass_tokens;
+use serde_json::{Error, Value};
+use std::alloc::{AllocError, Global};
 
 /// Why a text is no JSON, and where, by what the reader of JSON says of it.
-pub(crate) fn json_fault(text: &[u8], error: &Error) -> Finding<'static> {
+pub(crate) fn json_fault(
+    alloc: Global,
+    text: &[u8],
+    error: &Error,
+) -> Result<Finding<'static>, AllocError> {
     if text.is_empty() {
-        return Finding::at(Place::File, Complaint::Empty);
+        return Ok(Finding::at(Place::File, Complaint::Empty));
     }
     if begins_as_utf16(text) {
-        return Finding::at(Place::File, Complaint::Utf16);
+        return Ok(Finding::at(Place::File, Complaint::Utf16));
     }
     if text.starts_with(b"\xef\xbb\xbf") {
-        return Finding::at(Place::Text(1, 1), Complaint::ByteOrderMark);
+        return Ok(Finding::at(Place::Text(1, 1), Complaint::ByteOrderMark));
     }
     // where a line has no byte yet, the reader says column 0
-    let place = Place::Text(error.line(), error.column().max(1));
-    let offset = offset_of(text, error.line(), error.column());
+    let stopped = Place::Text(error.line(), error.column().max(1));
     if simdutf8::basic::from_utf8(text).is_err() {
-        Finding::at(place, Complaint::NotUtf8)
-    } else if error.is_eof() {
-        Finding::at(place, Complaint::CutOff)
-    } else {
-        Finding::at(place, slip(&text[..offset], &text[offset..]))
+        return Ok(Finding::at(stopped, Complaint::NotUtf8));
     }
+    if error.is_eof() {
+        return Ok(Finding::at(stopped, Complaint::CutOff));
+    }
+    let (at, complaint) = slip(alloc, text, offset_of(text, error.line(), error.column()))?;
+    Ok(Finding::at(place_of(text, at), complaint))
 }
 
-/// What may have been meant, by the text before and from where it is no JSON.
-fn slip(before: &[u8], rest: &[u8]) -> Complaint {
-    if is_end(rest) && ends_in(before, &[b',']) {
-        Complaint::CommaBeforeEnd
-    } else if is_comment(rest) {
-        Complaint::Comment
-    } else if rest.starts_with(b"'") {
-        Complaint::SingleQuotes
-    } else if is_leading_zero(before, rest) {
-        Complaint::LeadingZero
-    } else if before.iter().all(|byte| byte.is_ascii_whitespace()) && is_yaml(rest) {
-        Complaint::Yaml
-    } else if begins_value(rest) && ends_value(before) {
-        if is_closed(before) {
-            Complaint::SecondValue
-        } else {
-            Complaint::NoComma
+/// The token at which a text is no JSON, and what may have been meant, where the reader stopped there.
+fn slip(alloc: Global, text: &[u8], stop: usize) -> Result<(usize, Complaint), AllocError> {
+    let passed = pass_tokens(text, stop);
+    // the reader has taken each word before, but for a number behind which it stopped
+    if let Some(at) = passed.word {
+        if !is_value(alloc, word_of(from(text, at)))? {
+            return Ok((at, Complaint::NumberTooLarge));
         }
-    } else {
-        Complaint::NotJson
+    }
+    match passed.stray {
+        Some((at, complaint)) => Ok((at, known_slip(from(text, at)).unwrap_or(complaint))),
+        None => Ok((stop, no_token(text, stop))),
     }
 }
 
-fn is_comment(rest: &[u8]) -> bool {
-    rest.starts_with(b"//") || rest.starts_with(b"/*") || rest.starts_with(b"#")
+/// The text from there on.
+fn from(text: &[u8], at: usize) -> &[u8] {
+    text.get(at..).unwrap_or(&[])
 }
 
-/// Whether a number has a 0 before its first digit; the reader stops at the one or at the other.
-fn is_leading_zero(before: &[u8], rest: &[u8]) -> bool {
-    match (rest.first(), rest.get(1)) {
-        (Some(b'0'), Some(next)) if next.is_ascii_digit() => true,
-        (Some(digit), _) => digit.is_ascii_digit() && before.ends_with(b"0"),
+/// Whether the reader takes a word by itself.
+fn is_value(alloc: Global, word: &[u8]) -> Result<bool, AllocError> {
+    match Value::from_slice(alloc, word) {
+        Ok(_) => Ok(true),
+        Err(error) if error.is_memory() => Err(AllocError),
+        Err(_) => Ok(false),
+    }
+}
+
+/// The word at the front of a text.
+fn word_of(text: &[u8]) -> &[u8] {
+    match text.iter().position(|byte| ends_word(*byte)) {
+        Some(end) => text.get(..end).unwrap_or(&[]),
+        None => text,
+    }
+}
+
+fn ends_word(byte: u8) -> bool {
+    byte.is_ascii_whitespace() || b"[]{},:\"".contains(&byte)
+}
+
+/// What is meant by what JSON has nowhere.
+fn known_slip(rest: &[u8]) -> Option<Complaint> {
+    if rest.starts_with(b"//") || rest.starts_with(b"/*") || rest.starts_with(b"#") {
+        Some(Complaint::Comment)
+    } else if rest.starts_with(b"'") {
+        Some(Complaint::SingleQuotes)
+    } else {
+        None
+    }
+}
+
+/// What may be meant by what stands there, where a token may stand, and is none.
+fn no_token(text: &[u8], at: usize) -> Complaint {
+    let rest = from(text, at);
+    if let Some(complaint) = known_slip(rest) {
+        complaint
+    } else if text.iter().take(at).all(|byte| byte.is_ascii_whitespace()) && is_yaml(rest) {
+        Complaint::Yaml
+    } else if has_leading_zero(rest) {
+        Complaint::LeadingZero
+    } else if rest.starts_with(b"\"") {
+        Complaint::NoText
+    } else {
+        Complaint::NoToken
+    }
+}
+
+/// Whether a number has a 0 before its first digit.
+fn has_leading_zero(rest: &[u8]) -> bool {
+    match rest {
+        [b'-', b'0', digit, ..] | [b'0', digit, ..] => digit.is_ascii_digit(),
         _ => false,
     }
 }
@@ -72,19 +117,6 @@ fn is_yaml(text: &[u8]) -> bool {
     text.starts_with(b"- ")
         || text.starts_with(b"---")
         || colon.is_some_and(|at| at > 0 && text.get(at) == Some(&b':'))
-}
-
-/// Whether a value, or a key, may begin here.
-fn begins_value(rest: &[u8]) -> bool {
-    match rest.first() {
-        Some(byte) => { matches!(*byte, b'"' | b'{' | b'[' | b'-') || byte.is_ascii_alphanumeric() }
-        None => false,
-    }
-}
-
-/// Whether a text may end in a value, and what is blank behind it.
-fn ends_value(before: &[u8]) -> bool {
-    ends_in(before, b"\"}]elE0123456789")
 }
 
 /// By its byte order mark, or by a NUL as its first or second byte.
@@ -111,15 +143,17 @@ fn offset_of(text: &[u8], line: usize, column: usize) -> usize
     start + column - 1
 }
 
-/// Whether an array or an object ends here.
-fn is_end(rest: &[u8]) -> bool {
-    rest.starts_with(b"]") || rest.starts_with(b"}")
-}
-
-/// Whether a text ends in one of these bytes, and what is blank behind it.
-fn ends_in(text: &[u8], ends: &[u8]) -> bool {
-    match text.iter().rev().find(|byte| !byte.is_ascii_whitespace()) {
-        Some(last) => ends.contains(last),
-        None => false,
+/// The line of a byte and its place in it, both counted from 1.
+fn place_of(text: &[u8], at: usize) -> Place<'static> {
+    let mut line = 1usize;
+    let mut column = 1usize;
+    for byte in text.iter().take(at) {
+        if *byte == b'\n' {
+            line = line.saturating_add(1);
+            column = 1;
+        } else {
+            column = column.saturating_add(1);
+        }
     }
+    Place::Text(line, column)
 }

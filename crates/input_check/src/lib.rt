@@ -8,8 +8,10 @@ mod complaint;
 mod event_fault;
 mod finding;
 mod form;
+mod host;
 mod json_fault;
 mod lines;
+mod nesting;
 mod own_address;
 mod plan_fault;
 mod plan_warnings;
@@ -21,4 +23,4 @@ mod spelling;
 mod structure;
 mod warnings;
 
-pub use report::{PlanReport, ScriptReport, plan_report, script_report, too_long};
+pub use report::{PlanReport, ScriptReport, not_opened, plan_report, script_report, too_long};

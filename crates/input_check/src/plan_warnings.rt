@@ -1,6 +1,7 @@
 //! What the gateway takes of a plan and what will not work as it seems to be meant.
 use crate::complaint::Complaint;
 use crate::finding::{Finding, Place};
+use crate::host::{HostFault, host_fault};
 use crate::own_address::is_own;
 use crate::plan_fault::{MOST_PLANS, branches_of, is_branch_timeout, text_of};
 use crate::spelling::meant_key;
@@ -125,7 +126,6 @@ fn push_address_warnings<'v>(
         (address.contains("//"), Complaint::AddressWithSlashes),
         (address.contains('@'), Complaint::AddressWithUser),
         (address.contains(','), Complaint::SeveralAddresses),
-        (address.starts_with(':'), Complaint::NoHost),
         (has_no_port(address), Complaint::NoSuchPort),
         (
             own.iter().any(|own| is_own(address, own)),
@@ -136,6 +136,22 @@ fn push_address_warnings<'v>(
             let found = Finding::of(place, "address", branch.get("address"), complaint);
             warnings.add(&found);
         }
+    }
+    if let Some(fault) = host_fault(address.as_bytes()) {
+        let found = Finding::of(place, "address", branch.get("address"), of_host(fault));
+        warnings.add(&found);
+    }
+}
+
+/// What to say of a host that can't be meant.
+fn of_host(fault: HostFault) -> Complaint {
+    match fault {
+        HostFault::Absent => Complaint::NoHost,
+        HostFault::Placeholder => Complaint::HostPlaceholder,
+        HostFault::Wildcard => Complaint::HostWildcard,
+        HostFault::Unbracketed => Complaint::HostUnbracketed,
+        HostFault::EmptyLabel => Complaint::HostEmptyLabel,
+        HostFault::NoIpv4 => Complaint::HostNoIpv4,
     }
 }
 

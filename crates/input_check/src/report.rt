@@ -105,11 +105,27 @@ pub fn script_report(alloc: Global, name: &str, text: &[u8]) -> Result<ScriptRep
 pub fn too_long(alloc: Global, name: &str) -> Result<String, AllocError>
     ensures { IfOk result (λ text. IsRefusal (string_bytes text)) }
 {
+    refused_whole(alloc, name, Complaint::TooLong)
+}
+
+/// The text for a file of that name that can't be opened: whether there is one is known.
+pub fn not_opened(alloc: Global, name: &str, is_there: bool) -> Result<String, AllocError>
+    ensures { IfOk result (λ text. IsRefusal (string_bytes text)) }
+{
+    let complaint = if is_there {
+        Complaint::NotOpened
+    } else {
+        Complaint::NotThere
+    };
+    refused_whole(alloc, name, complaint)
+}
+
+/// The text of a file that is refused before it is read.
+fn refused_whole(alloc: Global, name: &str, complaint: Complaint) -> Result<String, AllocError>
+    ensures { IfOk result (λ text. IsRefusal (string_bytes text)) }
+{
     let mut found = Found::new(alloc, name);
-    push_finding(
-        &mut found.said,
-        &Finding::at(Place::File, Complaint::TooLong),
-    );
+    push_finding(&mut found.said, &Finding::at(Place::File, complaint));
     refused(alloc, &found)
 }
 
@@ -186,7 +202,7 @@ fn refused_plans<'n>(
             push_plan_warnings(alloc, &mut found.warnings, elements_of(&value), own);
         }
         // the line of a text that is no JSON
-        Err(error) => push_finding(&mut found.said, &json_fault(text, &error)),
+        Err(error) => push_finding(&mut found.said, &json_fault(alloc, text, &error)?),
     }
     Ok(found)
 }
@@ -219,7 +235,7 @@ fn refused_script<'n>(alloc: Global, name: &'n str, text: &[u8]) -> Result<Found
             push_repeated_key(alloc, &mut found.warnings, text);
             push_script_warnings(alloc, &mut found.warnings, &script);
         }
-        Err(error) => push_finding(&mut found.said, &json_fault(text, &error)),
+        Err(error) => push_finding(&mut found.said, &json_fault(alloc, text, &error)?),
     }
     Ok(found)
 }

@@ -52,20 +52,6 @@ impl Marker {
     }
 }
 
-/// Whether each array and each object that a text begins has ended in it.
-pub(crate) fn is_closed(text: &[u8]) -> bool {
-    let mut marker = Marker::new();
-    let mut depth = 0usize;
-    for byte in text {
-        match (marker.next(*byte), *byte) {
-            (Mark::Plain, b'[' | b'{') => depth = depth.saturating_add(1),
-            (Mark::Plain, b']' | b'}') => depth = depth.saturating_sub(1),
-            _ => {}
-        }
-    }
-    depth == 0
-}
-
 /// A key that stands in its object for the second time: the line, the byte in it, both from 1, and which key.
 #[derive(Clone, Copy)]
 pub(crate) struct Repeated {

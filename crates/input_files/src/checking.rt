@@ -6,14 +6,14 @@ ghost use Rattle.input_files.specs.Check.{FindsPlans, FindsScript, IsOfChecked};
 ghost use Rattle.input_files.specs.Check.{WritesApproval, WritesRefusal, WritesWarning};
 
 use command_line::{Checked, CheckedFile, OwnAddresses};
-use input_check::{plan_report, script_report, too_long};
+use input_check::{not_opened, plan_report, script_report, too_long};
 use script_replay::{Fault, read_text};
 use std::alloc::{AllocError, Global};
 use std::fs::{File, Files};
-use std::io::{self, Read, Write};
+use std::io::{self, ErrorKind, Read, Write};
 
-/// Checks the file that is named, and prints what is to be said of it. With `--strict` a file with warnings ends as a
-/// refused one does.
+/// Checks the file that is named, and prints what is to be said of it, also that it can't be opened. With `--strict` a
+/// file with warnings ends as a refused one does.
 pub fn check<R: Print + AllocGlobal + Files>(rt: &R, checked: &Checked) -> Result<(), Fault>
     ensures { IfErr result (IsOfChecked checked.now.file) }
 {
@@ -21,7 +21,7 @@ pub fn check<R: Print + AllocGlobal + Files>(rt: &R, checked: &Checked) -> Resul
     let mut writer = io::writer(rt);
     let (warned, fault) = match &checked.file {
         CheckedFile::Plans(path) => {
-            let mut file = File::open(rt, path.as_str())?;
+            let mut file = open(rt, path.as_str(), &mut writer)?;
             let own = texts_of(alloc, &checked.own)?;
             (
                 check_plans(alloc, path.as_str(), own.as_slice(), &mut file, &mut writer)?,
@@ -29,7 +29,7 @@ pub fn check<R: Print + AllocGlobal + Files>(rt: &R, checked: &Checked) -> Resul
             )
         }
         CheckedFile::Script(path) => {
-            let mut file = File::open(rt, path.as_str())?;
+            let mut file = open(rt, path.as_str(), &mut writer)?;
             (
                 check_script(alloc, path.as_str(), &mut file, &mut writer)?,
                 Fault::Script,
@@ -40,6 +40,27 @@ pub fn check<R: Print + AllocGlobal + Files>(rt: &R, checked: &Checked) -> Resul
         return Err(fault);
     }
     Ok(())
+}
+
+/// The file of that name. Where it can't be opened, that is written, with its name.
+fn open<R: AllocGlobal + Files, W: Write>(
+    rt: &R,
+    name: &str,
+    writer: &mut W,
+) -> Result<R::File, Fault>
+    ensures { IfErr result IsOfReading }
+{
+    let error = match File::open(rt, name) {
+        Ok(file) => return Ok(file),
+        Err(error) => error,
+    };
+    let kind = error.kind();
+    if kind == ErrorKind::OutOfMemory {
+        return Err(Fault::Memory);
+    }
+    let is_there = kind != ErrorKind::NotFound;
+    write_text(&not_opened(rt.alloc(), name, is_there)?, writer)?;
+    Err(Fault::Io)
 }
 
 /// The addresses that are said.
