@@ -14,6 +14,7 @@ import traceback
 import program_admin
 import program_backends
 import program_container
+import program_drains
 import program_ends
 import program_log
 import program_loops
@@ -23,8 +24,8 @@ import program_waits
 from program_room import CASE_TIME, Room, Untried, Wrong
 
 MODULES = [
-    program_admin, program_backends, program_container, program_ends, program_serve, program_places, program_loops,
-    program_waits, program_log,
+    program_admin, program_drains, program_backends, program_container, program_ends, program_serve,
+    program_places, program_loops, program_waits, program_log,
 ]
 
 

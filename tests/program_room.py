@@ -182,6 +182,25 @@ def client(port):
             time.sleep(0.02)
 
 
+def narrow_client(port):
+    """A stream to the gateway, which listens by then: few bytes can be written to it beyond those that are read."""
+    stream = socket.socket()
+    stream.settimeout(WAIT)
+    stream.setsockopt(socket.SOL_SOCKET, socket.SO_RCVBUF, 8_192)
+    stream.setsockopt(socket.IPPROTO_TCP, socket.TCP_MAXSEG, 1_400)
+    stream.connect(("127.0.0.1", port))
+    return stream
+
+
+def read_slowly(stream, seconds):
+    """Reads a few bytes at a time for so many seconds. Returns them."""
+    got, end = b"", time.monotonic() + seconds
+    while time.monotonic() < end:
+        got += read_to(stream, 500)
+        time.sleep(0.1)
+    return got
+
+
 def read_to(stream, count):
     """So many bytes of a stream, or those before its end."""
     got = b""
@@ -294,11 +313,12 @@ def at_once(count, act):
 
 
 class Backend:
-    """A backend that answers each request on a connection of its own, after a while, in a thread of its own."""
+    """A backend that answers each request on a connection of its own, after a while, in a thread of its own. It listens
+    by that socket, if one is given."""
 
-    def __init__(self, body, pause=0.0):
+    def __init__(self, body, pause=0.0, listening=None):
         # where too few may wait the system resets some, and the gateway rightly says that they are lost
-        self.socket, self.answer, self.pause = long_listener(), reply(body), pause
+        self.socket, self.answer, self.pause = listening or long_listener(), reply(body), pause
         self.port = self.socket.getsockname()[1]
         self.socket.settimeout(None)
         threading.Thread(target=self.serve, daemon=True).start()
@@ -362,6 +382,16 @@ def stop_now(run):
     os.waitid(os.P_PID, run.pid, os.WSTOPPED)
 
 
+@contextlib.contextmanager
+def stopped(run):
+    """A program stands still meanwhile, and then finds at once all that came."""
+    stop_now(run)
+    try:
+        yield
+    finally:
+        run.send_signal(signal.SIGCONT)
+
+
 def mount(files):
     """Has this process see other files at such paths, in a mount namespace of its own."""
     libc = ctypes.CDLL(None)
@@ -408,11 +438,41 @@ def waits_of(run):
     return count
 
 
+# the number of the system call by which a process takes a descriptor of another one, on each processor
+TAKE_DESCRIPTOR = 438
+
+
+def sockets_of(run):
+    """The streams that a program has now, as this process has them too."""
+    process = os.pidfd_open(run.pid)
+    with contextlib.ExitStack() as opened:
+        opened.callback(os.close, process)
+        for name in os.listdir(f"/proc/{run.pid}/fd"):
+            with contextlib.suppress(FileNotFoundError):
+                if not os.readlink(f"/proc/{run.pid}/fd/{name}").startswith("socket:"):
+                    continue
+            taken = ctypes.CDLL(None).syscall(TAKE_DESCRIPTOR, process, int(name), 0)
+            if taken < 0:
+                raise Untried("descriptors of the program can't be taken")
+            yield opened.enter_context(socket.socket(fileno=taken))
+
+
 def processor_time_of(run):
     """The seconds of processor time that a program has used so far."""
     with open(f"/proc/{run.pid}/stat", encoding="ascii") as file:
         fields = file.read().rsplit(")", 1)[1].split()
     return (int(fields[11]) + int(fields[12])) / os.sysconf("SC_CLK_TCK")
+
+
+def busy_time_of(run):
+    """The seconds so far in which a thread of a program ran, or could have: on a busy machine it waits for a processor."""
+    if not os.path.exists(f"/proc/{run.pid}/schedstat"):
+        return processor_time_of(run)
+    used = 0
+    for thread in os.listdir(f"/proc/{run.pid}/task"):
+        with open(f"/proc/{run.pid}/task/{thread}/schedstat", encoding="ascii") as file:
+            used += sum(map(int, file.read().split()[:2]))
+    return used / 1e9
 
 
 def size_of(run, what="VmSize"):
