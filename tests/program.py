@@ -18,6 +18,7 @@ import program_drains
 import program_ends
 import program_log
 import program_loops
+import program_names
 import program_places
 import program_serve
 import program_waits
@@ -25,7 +26,7 @@ from program_room import CASE_TIME, Room, Untried, Wrong
 
 MODULES = [
     program_admin, program_drains, program_backends, program_container, program_ends, program_serve,
-    program_places, program_loops, program_waits, program_log,
+    program_places, program_loops, program_names, program_waits, program_log,
 ]
 
 

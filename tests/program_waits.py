@@ -202,9 +202,12 @@ class NameServer:
                 question, who = self.socket.recvfrom(4_096)
                 if not question:
                     return
-                self.asked.append(question[13:13 + question[12]].decode())
-                if self.answers:
-                    self.socket.sendto(question[:2] + b"\x81\x83" + question[4:], who)
+                self.asked.append(name_in(question))
+                self.take(question, who)
+
+    def take(self, question, who):
+        if self.answers:
+            self.socket.sendto(question[:2] + b"\x81\x83" + question[4:], who)
 
     def __enter__(self):
         return self
@@ -217,6 +220,11 @@ class NameServer:
         self.socket.close()
 
 
+def name_in(question):
+    """The first label of the name that is asked for."""
+    return question[13:13 + question[12]].decode()
+
+
 def named_plan(paths):
     """A plan file with a plan for each of these paths: the name and the port of its one backend."""
     return json.dumps([
@@ -224,7 +232,7 @@ def named_plan(paths):
         for path, (name, port) in paths.items()]).encode()
 
 
-def serve_with_names(room, paths, hosts):
+def serve_with_names(room, paths, hosts, workers=4):
     """Serves plans whose backends are names: those in hosts are found, and others asked of the server of names."""
     files = [
         (room.file("hosts", hosts), "/etc/hosts"),
@@ -232,7 +240,7 @@ def serve_with_names(room, paths, hosts):
         (room.file("switch", b"hosts: files dns\n"), "/etc/nsswitch.conf"),
     ]
     try:
-        return room.serve(named_plan(paths), workers=4, limit=lambda: mount(files))
+        return room.serve(named_plan(paths), workers, limit=lambda: mount(files))
     except subprocess.SubprocessError:
         raise Untried("it can't have names of its own") from None
 
