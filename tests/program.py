@@ -16,6 +16,7 @@ import program_backends
 import program_container
 import program_drains
 import program_ends
+import program_figures
 import program_log
 import program_loops
 import program_names
@@ -25,7 +26,7 @@ import program_waits
 from program_room import CASE_TIME, Room, Untried, Wrong
 
 MODULES = [
-    program_admin, program_drains, program_backends, program_container, program_ends, program_serve,
+    program_admin, program_drains, program_figures, program_backends, program_container, program_ends, program_serve,
     program_places, program_loops, program_names, program_waits, program_log,
 ]
 

@@ -1,4 +1,5 @@
 """Cases of tests/program.py: the log."""
+import concurrent.futures
 import contextlib
 import json
 import os
@@ -281,9 +282,35 @@ def case_log_that_fails(room):
             expect("what was said", os.read(reader, 1000), b"")
 
 
+def stands_under_load(room):
+    """Sees that a gateway tells after ten seconds how it stands, though lines come without end by then."""
+    port = free_port()
+    run = room.start(serve_words(port, room.file("no-plans", b"[]")) + ["--log"])
+    client(port).close()
+    began = time.monotonic()
+    time.sleep(9)
+    is_over = threading.Event()
+
+    def be_busy():
+        while not is_over.is_set():
+            ask_all(port, 1)
+
+    with concurrent.futures.ThreadPoolExecutor(3) as pool:
+        busy = [pool.submit(be_busy) for _ in range(3)]
+        try:
+            while b'"asking"' not in run.stderr.readline():
+                expect("whether it is told in time", time.monotonic() - began < 10 + WAIT / 4, True)
+        finally:
+            is_over.set()
+            run.stderr.close()
+        for one in busy:
+            one.result()
+
+
 def case_log_of_standing(room):
-    """each ten seconds a line tells how the gateway stands, all of its loops"""
-    with listener() as backend:
+    """each ten seconds a line tells how the gateway stands, all of its loops, and one under load does so too"""
+    with listener() as backend, concurrent.futures.ThreadPoolExecutor(1) as pool:
+        under_load = pool.submit(stands_under_load, room)
         run, port = room.serve(plan([backend.getsockname()[1]] * 3, 2), workers=2, streams=3, log=True)
         with client(port) as stream, client(port), client(port) as third:
             answers("a request that is no call", stream)
@@ -301,6 +328,7 @@ def case_log_of_standing(room):
     standing.pop("time")
     expect("how it stands", standing, {
         "asking": 4, "connections": 3, "counted": 0, "dropped": 0, "late": 0, "lingering": 0, "unknown": 0, "waiting": 0})
+    under_load.result()
     expect("the status", (run.communicate(timeout=WAIT), run.returncode)[1], 0)
 
 
