@@ -22,12 +22,13 @@ import program_loops
 import program_names
 import program_places
 import program_serve
+import program_turns
 import program_waits
 from program_room import CASE_TIME, Room, Untried, Wrong
 
 MODULES = [
     program_admin, program_drains, program_figures, program_backends, program_container, program_ends, program_serve,
-    program_places, program_loops, program_names, program_waits, program_log,
+    program_places, program_loops, program_turns, program_names, program_waits, program_log,
 ]
 
 
