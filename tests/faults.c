@@ -11,6 +11,7 @@
  *   short        one byte is moved, where more was asked for; that more can be received is told anew
  *   interrupted  a signal came before anything was moved
  *   lasting      an input or output fault, and so does each such call of the same thread from then on
+ *   often        an input or output fault, and so do nine of ten such calls of a thread from then on; it sleeps no more
  *   hasty        it does not wait, and tells of nothing (each other `wait`, whatever N)
  *
  * Where the variable FAULT_WHEN names a file, calls are counted from when that is there.
@@ -29,6 +30,7 @@
 #include <sys/eventfd.h>
 #include <sys/socket.h>
 #include <sys/syscall.h>
+#include <time.h>
 #include <unistd.h>
 
 extern void *__libc_malloc(size_t size);
@@ -42,6 +44,10 @@ static char *code_start, *code_end;
 
 /* Whether the calls of this thread fail from now on. */
 static __thread int lasts;
+
+/* Whether nine of ten calls of a thread fail from now on, and how many this one has made since. */
+static int is_often;
+static __thread unsigned turn;
 
 /* The program itself is the first that is listed. */
 static int note_program(struct dl_phdr_info *info, size_t size, void *data) {
@@ -64,6 +70,14 @@ __attribute__((constructor)) static void begin(void) {
     }
 }
 
+/* Tells that a call fails. */
+static int tell(void) {
+    if (told >= 0) {
+        syscall(SYS_write, told, "!", 1);
+    }
+    return 1;
+}
+
 /* Whether it is this call that fails. */
 static int fails(const char *name, void *caller) {
     if ((char *)caller < code_start || code_end <= (char *)caller || strcmp(name, call) != 0) {
@@ -71,6 +85,9 @@ static int fails(const char *name, void *caller) {
     }
     if (lasts) {
         return 1;
+    }
+    if (is_often) {
+        return ++turn % 10 ? tell() : 0;
     }
     if (countdown < 0) {
         return 0;
@@ -82,10 +99,8 @@ static int fails(const char *name, void *caller) {
         return 0;
     }
     lasts = strcmp(how, "lasting") == 0;
-    if (told >= 0) {
-        syscall(SYS_write, told, "!", 1);
-    }
-    return 1;
+    is_often = strcmp(how, "often") == 0;
+    return tell();
 }
 
 #define FAILS(name) fails(name, __builtin_return_address(0))
@@ -169,6 +184,10 @@ int connect(int file, const struct sockaddr *to, socklen_t length) {
 
 int setsockopt(int file, int level, int name, const void *value, socklen_t length) {
     return FAILS("option") ? faulty() : NEXT(int, "setsockopt", int, int, int, const void *, socklen_t)(file, level, name, value, length);
+}
+
+int nanosleep(const struct timespec *time, struct timespec *left) {
+    return is_often ? 0 : NEXT(int, "nanosleep", const struct timespec *, struct timespec *)(time, left);
 }
 
 int shutdown(int file, int side) {

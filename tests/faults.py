@@ -16,9 +16,10 @@ import time
 import program
 import program_admin
 import program_places
+import program_room
 from program_room import (
-    DONE, IO, MEMORY, WAIT, Wrong, answers, at_once, call, client, end_of, expect, free_ports, is_reset, listener, plan,
-    read_to, reply, request, serve_words, waits_of,
+    DONE, IO, MEMORY, NOT_FOUND, STRAY, Untried, WAIT, Wrong, answers, at_once, call, client, end_of, expect,
+    free_ports, is_reset, listener, plan, read_to, reply, request, serve_words, waits_of,
 )
 
 HERE = os.path.dirname(os.path.abspath(__file__))
@@ -273,6 +274,118 @@ def case_serve_wait_fails(room):
     """serve: a wait or an accept that fails is made again"""
     for what in ("wait", "accept"):
         serve_each(room, what, "failed", all_answered)
+
+
+def case_serve_fails_often(room):
+    """serve: hundreds of waits, and of accepts, that fail with others between them end nothing"""
+    for what in ("wait", "accept"):
+        with tempfile.TemporaryFile() as told:
+            os.set_inheritable(told.fileno(), True)
+            env = variables(what, 1, "often", told.fileno())
+            run, port = room.serve(b"[]", streams=60, variables=env, pass_fds=[told.fileno()])
+            for _ in range(60):
+                with client(port) as stream:
+                    answers(f"one of 60 while a {what} fails now and then", stream)
+            room.ends("the gateway", run, DONE)
+            told.seek(0)
+            failed = len(told.read())
+        # a wait fails in main and in a loop
+        expect(f"whether {failed} times a {what} failed", failed > (1_000 if what == "wait" else 400), True)
+
+
+def ask_while_accepts_fail(room, begun):
+    """Asks as an operator, who was let in before, once each accept fails. Returns what he is told, and how long he was
+    there: after two seconds he has to go."""
+    with listener() as silent, contextlib.ExitStack() as opened:
+        env = {**variables("accept", 1, "lasting", 2), "FAULT_WHEN": begun}
+        run, port, where = program_admin.serve(room, plan([silent.getsockname()[1]], 1), variables=env)
+        stream = opened.enter_context(client(port))
+        call(stream)
+        # while a backend is asked an accept is tried for ever
+        asked = opened.enter_context(silent.accept()[0])
+        came = time.monotonic()
+        operator = opened.enter_context(client(where))
+        operator.sendall(b"GET /ready HTTP/1.1\r\nHost: localhost\r\n")
+        time.sleep(0.2)
+        with open(begun, "wb"):
+            pass
+        opened.enter_context(client(port)).sendall(STRAY)
+        time.sleep(0.2)
+        operator.sendall(b"\r\n")
+        told = read_to(operator, 12)
+        took = time.monotonic() - came
+        asked.sendall(reply("1"))
+        expect("the call", read_to(stream, len(ANSWER)), ANSWER)
+        expect("whether it goes on", run.poll(), None)
+        return told, took
+
+
+def case_serve_operators_while_accepts_fail(room):
+    """serve: operators are answered while each accept fails"""
+    for number in range(8):
+        told, took = ask_while_accepts_fail(room, f"{room.folder}/begun-{number}")
+        if told.startswith(b"HTTP") or took < 1.8:
+            return expect("what the operator is told", told, b"HTTP/1.1 200")
+    raise Untried("operators have to go before they can be answered")
+
+
+def case_serve_tells_streams_closed(room):
+    """serve: a stream that a loop closes, as it can't be watched, is told by a line and by the figures"""
+    begun = f"{room.folder}/begun"
+    env = {**variables("watch", 1, "failed", 2), "FAULT_WHEN": begun}
+    run, port, where = program_admin.serve(room, b"[]", "--log", variables=env)
+    lines = open(run.stderr.fileno(), "rb", closefd=False)
+    program_room.listens(lines)
+    with client(port) as first:
+        answers("one before", first)
+        with open(begun, "wb"):
+            pass
+        with client(port) as stream:
+            expect("what the stream gets", read_to(stream, 1).removesuffix(b" (reset)"), b"")
+        answers("the one before, later", first)
+        said = []
+        while sum("ended" in line for line in said) < 2:
+            said.append(json.loads(lines.readline().lstrip(b"!")))
+    expect("what is told of the stream", [line["closed"] for line in said if "closed" in line], ["no memory"])
+    expect("the figure", program_admin.figures(where)["connect_gateway_streams_closed_total",], 1)
+
+
+def case_serve_memory_at_a_deadline(room):
+    """serve: a client whose call ends at its deadline without memory has its reply, or the end of its stream"""
+    with listener() as silent:
+        file = room.file("plans", plan([silent.getsockname()[1]], 1))
+        ports = free_ports(4)
+        found = []
+
+        def run(first, number, env, files):
+            begun = f"{room.folder}/begun-{number}"
+            words, env = serve_words(ports[first], file, streams=2), {**env, "FAULT_WHEN": begun}
+            started = room.start(words, variables=env, pass_fds=files)
+            with client(ports[first]) as stream, client(ports[first]) as other:
+                answers("another before", other)
+                call(stream, f"X-Request-Id: {number}\r\nConnect-Timeout-Ms: 400\r\n")
+                time.sleep(0.2)
+                with open(begun, "wb"):
+                    pass
+                said = read_to(stream, 12).removesuffix(b" (reset)")
+                other.sendall(STRAY)
+                after = read_to(other, len(NOT_FOUND)).removesuffix(b" (reset)")
+            return said, after, end_of(started)[0]
+
+        def judge(name, met, said, after, end):
+            found.append(said)
+            expect(f"{name}: the reply", said in ((b"HTTP/1.1 504", b"") if met else (b"HTTP/1.1 504",)), True)
+            expect(f"{name}: another's", after in ((NOT_FOUND, b"") if met else (NOT_FOUND,)), True)
+            expect(f"{name}: the gateway's end", end, DONE)
+
+        def try_some(first):
+            for number in range(first + 1, 400, 4):
+                if not try_one("allocate", number, "refused", lambda *how: run(first, number, *how), judge):
+                    return
+            raise Wrong("more than 400 allocations")
+
+        at_once(4, try_some)
+        expect("what the clients got", set(found), {b"HTTP/1.1 504", b""})
 
 
 def starts_with(room, what):
