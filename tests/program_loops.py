@@ -292,22 +292,35 @@ def case_hung_beside_fast(room):
         expect("which of them are asked no more", select.select(asked, [], [], 0.3)[0], [])
 
 
+def be_greedy(stream, port):
+    """Sends far more than is answered, and takes a byte. Returns the stream, or a new one where it has ended."""
+    try:
+        with contextlib.suppress(BlockingIOError):
+            stream.send(STRAY * 50)
+        with contextlib.suppress(BlockingIOError):
+            stream.recv(1)
+        return stream
+    except ConnectionError:
+        stream.close()
+        other = client(port)
+        other.setblocking(False)
+        return other
+
+
 def case_greedy_clients(room):
     """clients that send without end, or take their replies byte by byte, keep nobody else from his answers"""
     with Backend("1") as backend, contextlib.ExitStack() as opened:
         _run, port = room.serve(plan([backend.port], 1))
-        greedy = [opened.enter_context(client(port)) for _ in range(4)]
+        greedy = [client(port) for _ in range(4)]
         stream = opened.enter_context(client(port))
         for one in greedy:
             one.setblocking(False)
         for _ in range(99):
-            for one in greedy:
-                with contextlib.suppress(BlockingIOError):
-                    one.send(STRAY * 50)
-                with contextlib.suppress(BlockingIOError):
-                    one.recv(1)
+            greedy = [be_greedy(one, port) for one in greedy]
             call(stream)
             expect("a reply", read_reply(stream), ("200", b'{"b0":1}'))
+        for one in greedy:
+            one.close()
 
 
 def case_full_loops(room):
