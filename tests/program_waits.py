@@ -451,11 +451,12 @@ def case_deadlines(room):
 
 def case_one_client(room):
     """one client's calls wake no thread but that of its loop, beside 64 workers"""
-    calls = 5_000
     with Backend("1") as backend:
-        run, port = room.serve(plan([backend.port], 1), workers=64, streams=calls // 100)
-        waits = None
-        for _ in range(calls // 100):
+        run, port = room.serve(plan([backend.port], 1), workers=64, streams=50)
+        waits, began, streams = None, time.monotonic(), 0
+        # 5,000 calls, or on a busy machine as many as there is time for
+        while streams < 5 or streams < 50 and time.monotonic() - began < WAIT:
+            streams += 1
             with client(port) as stream:
                 if waits is None:
                     answers("at first", stream)
@@ -469,6 +470,8 @@ def case_one_client(room):
                 waits = waits_of(run)
                 stream.shutdown(socket.SHUT_WR)
                 sees_end("it", stream)
+        for _ in range(streams, 50):
+            client(port).close()
     room.ends("the program", run, DONE)
 
 
