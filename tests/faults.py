@@ -19,7 +19,7 @@ import program_places
 import program_room
 from program_room import (
     DONE, IO, MEMORY, NOT_FOUND, STRAY, Untried, WAIT, Wrong, answers, at_once, call, client, end_of, expect,
-    free_ports, is_reset, listener, plan, read_to, reply, request, serve_words, waits_of,
+    free_ports, is_reset, listener, plan, read_to, reply, request, sees_end, serve_words, waits_of,
 )
 
 HERE = os.path.dirname(os.path.abspath(__file__))
@@ -583,6 +583,30 @@ def case_serve_loop_ends(room):
             if ended == {DONE[0], IO[0]}:
                 return
         raise Wrong(f"with one loop it always ended by {ended}")
+
+
+def case_drain_wait_fails(room):
+    """serve: a drain closes an idle connection, whichever wait fails from then on"""
+    for number in range(1, 9):
+        begun = f"{room.folder}/drained-{number}"
+
+        def run(env, files):
+            env = {**env, "FAULT_WHEN": begun}
+            started, port, where = program_admin.serve(room, b"[]", "--grace", "60", variables=env, pass_fds=files)
+            with client(port) as stream:
+                answers("before the drain", stream)
+                while not all_sleep(started):
+                    pass
+                with open(begun, "wb"):
+                    pass
+                program_admin.drain(where)
+                sees_end(f"wait {number} failed: an idle connection", stream)
+            return [end_of(started)[0]]
+
+        def judge(name, _met, end):
+            expect(f"{name}: the gateway's end", end, DONE)
+
+        try_one("wait", number, "failed", run, judge)
 
 
 # ---- signals

@@ -1,4 +1,5 @@
-ghost use Rattle.std.specs.Prelude.{◌≡◌, ◌↔◌, [], Some, true, is_some, IfOk, IfSome, IsFalse, MatchOption, option_and_then};
+ghost use Rattle.std.specs.Prelude.{◌≡◌, ◌↔◌, [], None, Some, true, is_some, IfOk, IfSome, IsFalse, MatchOption, option_and_then};
+ghost use Rattle.std.specs.Borrow.{sem};
 ghost use Rattle.std.specs.Option.{option_map_or};
 ghost use Rattle.branch_causes.specs.Causes.{cause_of_end, status_of_end};
 ghost use Rattle.branch_causes.specs.declared.cause.Cause.TheVariants.{NotWanted};
@@ -11,7 +12,7 @@ ghost use Rattle.loop_model.specs.Whole.{AsksOn};
 use crate::addresses::Addresses;
 use crate::attempt::{Attempt, Step};
 use crate::backend::Backend;
-use crate::edges::Edges;
+use crate::errand::Errand;
 use crate::network::Network;
 use branch_causes::{Cause, cause_of_end, status_of_end};
 use branch_exchange::{ExchangeEnd, Loss, outcome_of};
@@ -35,6 +36,7 @@ pub struct Asking<W: Wire> {
     attempt: Attempt<W>,
     // how it ended, until that is recorded
     end: Option<ExchangeEnd>,
+    errand: Errand,
     // for proofs: the streams that were given up before
     tried: Log<Backend<W>, bool>,
 }
@@ -63,8 +65,10 @@ pub enum Progress {
 }
 
 impl<W: Wire> Asking<W> {
+    ghost use Rattle.branch_asking.specs.Errands.{LendsErrand};
+
     /// The job, before anything was done for it. One for whose request there is no memory is over.
-    pub fn new(alloc: Global, job: Job) -> Asking<W>
+    pub fn new(alloc: Global, job: Job, errand: Errand) -> Asking<W>
         ensures job { result.job ≡ job }
         ensures over { IfSome result.end (λ end. end ≡ ExchangeEnd.NoMemory) }
     {
@@ -77,6 +81,7 @@ impl<W: Wire> Asking<W> {
             addresses: Addresses::new(alloc),
             attempt: Attempt::new(alloc, request),
             end,
+            errand,
             tried: Log::new(),
         }
     }
@@ -109,6 +114,18 @@ impl<W: Wire> Asking<W> {
         ensures { result ≡ option_and_then status_of_end self.now.end }
     {
         status_of_end(self.end.as_ref()?)
+    }
+
+    /// What its loop notes of it.
+    pub fn errand(&self) -> &Errand {
+        &self.errand
+    }
+
+    /// The same, to be noted.
+    pub fn errand_mut(&mut self) -> &mut Errand
+        ensures* { sem 𝓛 (LendsErrand W.row W.Wire self.entry result) }
+    {
+        &mut self.errand
     }
 
     /// Its exchange, and the stream that it goes over.
@@ -156,7 +173,7 @@ impl<W: Wire> Asking<W> {
     }
 
     /// Writes what can be written of the request, and reads what can be read of the reply.
-    pub fn step(&mut self, edges: &mut Edges) -> Progress
+    pub fn step(&mut self) -> Progress
         ensures job { self.new.job ≡ self.old.job }
         ensures on { AsksOn (asked_for self.old) (asked_for self.new) }
         ensures over { (result ≡ Progress.Ended) ↔ (is_some self.new.end ≡ true) }
@@ -164,7 +181,7 @@ impl<W: Wire> Asking<W> {
         if self.end.is_some() {
             return Progress::Ended;
         }
-        let step = self.attempt.step(edges);
+        let step = self.attempt.step(&mut self.errand.edges);
         self.attempt.unsent_law();
         match step {
             Step::Waits => Progress::Waits,
@@ -177,14 +194,17 @@ impl<W: Wire> Asking<W> {
         }
     }
 
-    /// It is over: it is lost by this, whatever was read; None for want of memory.
+    /// It is over. One that had not ended is lost by this, whatever was read; None for want of memory.
     pub fn lose(&mut self, loss: Option<Loss>)
         ensures job { self.new.job ≡ self.old.job }
         ensures on { AsksOn (asked_for self.old) (asked_for self.new) }
-        ensures ended { MatchOption loss (self.new.end ≡ Some ExchangeEnd.NoMemory)
+        ensures kept { (end : ExchangeEnd) → self.old.end ≡ Some end → self.new ≡ self.old }
+        ensures lost { self.old.end ≡ None → MatchOption loss (self.new.end ≡ Some ExchangeEnd.NoMemory)
             (λ loss. self.new.end ≡ Some (ExchangeEnd.Lost loss)) }
     {
-        self.end = Some(loss.map_or(ExchangeEnd::NoMemory, ExchangeEnd::Lost));
+        if self.end.is_none() {
+            self.end = Some(loss.map_or(ExchangeEnd::NoMemory, ExchangeEnd::Lost));
+        }
     }
 
     /// The outcome that is to be recorded; None for want of memory. One that has not ended is lost.
@@ -217,6 +237,7 @@ impl<W: Wire + Drop> Asking<W> {
         let Some(address) = self.addresses.next() else {
             return false;
         };
+        self.errand.has_new_stream();
         let stream = Backend::connect(net, address, self.attempt.left());
         if let Some(before) = self.attempt.connect(stream) {
             self.tried = self.tried.and(&before, &true);
@@ -224,12 +245,12 @@ impl<W: Wire + Drop> Asking<W> {
         true
     }
 
-    /// The job, and its stream, if it has one.
-    pub fn into_parts(self) -> (Job, Option<W>)
+    /// The job, what was noted of it, and its stream, if it has one.
+    pub fn into_parts(self) -> (Job, Errand, Option<W>)
         ensures { result.0 ≡ self.job }
     {
         let stream = self.attempt.into_wire();
-        (self.job, stream)
+        (self.job, self.errand, stream)
     }
 }
 

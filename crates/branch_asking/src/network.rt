@@ -1,7 +1,7 @@
 ghost use Rattle.std.specs.Prelude.{◌≡◌, ◌∷◌, ◌++◌, ℕ, List, [], false};
 
 use crate::branch_end::BranchEnd;
-use gateway_core::{CallId, ConnId, ReplyEntry, RequestLabel};
+use gateway_core::{CallId, ConnId, Job, ReplyEntry, RequestLabel};
 use std::net::SocketAddr;
 use wires::Wire;
 
@@ -43,6 +43,11 @@ pub trait Network<W: Wire> {
 
     /// Is told that a stream was closed without a byte: there was no memory for it, or it could not be watched.
     fn tell_unserved(&mut self)
+        ensures told { told self.new ≡ told self.old };
+
+    /// Is told that the backend of a branch will not be asked, before the reply to its call is told: that call ended
+    /// while the job waited for a place.
+    fn tell_unasked(&mut self, job: &Job)
         ensures told { told self.new ≡ told self.old };
 
     /// Is told what asking the backend of a branch came to, before the reply to its call is told.

@@ -1,11 +1,14 @@
+ghost use Rattle.std.specs.Prelude.{◌≡◌, IfSome, Some};
+
 use crate::log_writer::milliseconds_since_1970;
 use access_log::{
     BranchAsked, Caller, Unserved, branch_line, broken_line, closed_line, log_line, tells_branch,
 };
 use crossbeam_channel::Sender;
-use gateway_core::{CallId, ConnId, ReplyEntry};
-use gateway_loop::BranchEnd;
+use gateway_core::{CallId, ConnId, Job, ReplyEntry};
+use gateway_loop::{BranchEnd, Cause};
 use std::alloc::{AllocError, Global};
+use std::str;
 use std::sync::atomic::{AtomicU64, Ordering};
 use std::sync::{Arc, Wait};
 use std::time::Clock;
@@ -93,18 +96,33 @@ impl LoopLog {
 
     /// Tells what came of asking the backend of a branch, unless it answered and only failures are told.
     pub(crate) fn tell_branch<R: Clock + Wait>(&self, rt: &R, end: &BranchEnd) {
-        if !tells_branch(end.cause, self.to.tells_all) {
-            return;
+        if tells_branch(end.cause, self.to.tells_all) {
+            self.tell_job(rt, &end.job, end.cause, end.status, end.took);
         }
+    }
+
+    /// Tells that the backend of a branch will not be asked.
+    pub(crate) fn tell_unasked<R: Clock + Wait>(&self, rt: &R, job: &Job) {
+        self.tell_job(rt, job, Cause::NeverAsked, None, 0);
+    }
+
+    fn tell_job<R: Clock + Wait>(
+        &self,
+        rt: &R,
+        job: &Job,
+        cause: Cause,
+        status: Option<u16>,
+        took: u64,
+    ) {
         let asked = BranchAsked {
-            call: end.job.call(),
-            plan: end.job.plan_path(),
-            branch: end.job.branch_name(),
-            address: end.job.address(),
-            took: end.took,
-            cause: end.cause,
-            status: end.status,
-            request_id: end.request_id(),
+            call: job.call(),
+            plan: job.plan_path(),
+            branch: job.branch_name(),
+            address: job.address(),
+            took,
+            cause,
+            status,
+            request_id: id_of(job),
         };
         let line = branch_line(self.alloc, milliseconds_since_1970(rt), self.worker, &asked);
         self.to.add(rt, line.ok());
@@ -114,4 +132,11 @@ impl LoopLog {
     pub(crate) fn tell_unserved<R: Clock + Wait>(&self, rt: &R) {
         self.to.tell_unserved(rt, self.alloc, Unserved::NoMemory);
     }
+}
+
+/// The request id of the job's call, if it has one that is a text.
+fn id_of(job: &Job) -> Option<&str>
+    ensures { IfSome result (λ id. job.now.job.request_id ≡ Some id.now) }
+{
+    str::from_utf8(job.request_id()?).ok()
 }

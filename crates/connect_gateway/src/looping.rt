@@ -10,8 +10,8 @@ use access_log::Caller;
 use admin::{LoopCounts, ServedNames};
 use call_plan::Plans;
 use crossbeam_channel::Receiver;
-use gateway_core::{CallId, ConnId, ReplyEntry, RequestLabel};
-use gateway_loop::{BranchEnd, Comings, EventLoop, Network, Ready};
+use gateway_core::{CallId, ConnId, Job, ReplyEntry, RequestLabel};
+use gateway_loop::{BranchEnd, Comings, EventLoop, Network, NextTurn, Ready};
 use http_server::Log;
 use mio::event::Event;
 use mio::unix::SourceFd;
@@ -69,6 +69,8 @@ pub(crate) struct Looping<M> {
     main: Arc<MainSide>,
     // whether the drain has ended the calls that were left
     has_ended_calls: bool,
+    // whether idle connections are to be closed, and what came before could not be looked at yet
+    has_idle: bool,
 }
 
 // Clauses see nothing of it, which keeps proofs small.
@@ -102,6 +104,7 @@ impl<M: NetHost> Looping<M> {
             side,
             main,
             has_ended_calls: false,
+            has_idle: false,
         })
     }
 
@@ -121,8 +124,8 @@ impl<M: NetHost> Looping<M> {
         let rt = self.rt;
         let mut failures: u32 = 0;
         for _ in rt.forever() {
-            let until = self.next_turn();
-            match self.network.wait(until, &mut self.comings.ready) {
+            let next = self.next_turn();
+            match self.network.wait(next, &mut self.comings.ready) {
                 Ok(()) => failures = 0,
                 Err(_) if failures >= MOST_FAILURES => return false,
                 Err(_) => {
@@ -155,9 +158,11 @@ impl<M: NetHost> Looping<M> {
             self.event_loop.drain();
         }
         // what came meanwhile is read first
-        if self.network.wait(Some(0), &mut self.comings.ready).is_ok() {
+        let waited = self.network.wait(NextTurn::AtOnce, &mut self.comings.ready);
+        self.has_idle = waited.is_err();
+        if waited.is_ok() {
             self.event_loop.turn(&mut self.network, &mut self.comings);
-            if self.event_loop.next_turn() != Some(0) {
+            if self.event_loop.next_turn() != NextTurn::AtOnce {
                 self.event_loop.close_idle();
             }
         }
@@ -167,14 +172,14 @@ impl<M: NetHost> Looping<M> {
         self.side.ends_calls.load(Ordering::SeqCst) && !self.has_ended_calls
     }
 
-    /// The moment at which a turn is due though the loop is not woken.
-    fn next_turn(&self) -> Option<u64> {
+    /// When a turn is due though the loop is not woken.
+    fn next_turn(&self) -> NextTurn {
         // a wake-up may have come while it was looked at what came meanwhile
         let is_cut = self.side.is_cut.load(Ordering::SeqCst);
-        if self.mail.is_empty() && !self.is_to_end_calls() && !is_cut {
+        if self.mail.is_empty() && !self.is_to_end_calls() && !is_cut && !self.has_idle {
             self.event_loop.next_turn()
         } else {
-            Some(0)
+            NextTurn::AtOnce
         }
     }
 
@@ -248,13 +253,13 @@ impl<M: Host> MioNetwork<M> {
         })
     }
 
-    /// Waits, up to that moment if there is one or until the loop is woken, and tells what is ready. It does not wait,
-    /// where nothing of that can be told.
-    pub(crate) fn wait(&mut self, until: Option<u64>, ready: &mut Vec<Ready>) -> io::Result<()> {
+    /// Waits until the next turn is due or the loop is woken, and tells what is ready. It does not wait, where nothing
+    /// of that can be told.
+    pub(crate) fn wait(&mut self, next: NextTurn, ready: &mut Vec<Ready>) -> io::Result<()> {
         ready.clear();
         // the system tells each of them once
         ready.reserve(MOST_EVENTS)?;
-        let timeout = until.map(|until| self.time_to(until));
+        let timeout = self.time_to(next);
         self.poll.poll(&mut self.events, timeout)?;
         for event in &self.events {
             if event.token() != WAKER {
@@ -265,9 +270,16 @@ impl<M: Host> MioNetwork<M> {
         Ok(())
     }
 
-    fn time_to(&mut self, moment: u64) -> Duration {
-        let now = self.clock.now(&self.rt);
-        Duration::from_millis(moment.saturating_sub(now))
+    /// How long it is until then; None where nothing is due.
+    fn time_to(&mut self, next: NextTurn) -> Option<Duration> {
+        match next {
+            NextTurn::AtOnce => Some(Duration::from_millis(0)),
+            NextTurn::At(moment) => {
+                let now = self.clock.now(&self.rt);
+                Some(Duration::from_millis(moment.saturating_sub(now)))
+            }
+            NextTurn::Never => None,
+        }
     }
 }
 
@@ -341,6 +353,12 @@ impl<M: NetHost> Network<Told<Socket>> for MioNetwork<M> {
         self.side.unserved.fetch_add(1, Ordering::SeqCst);
         if let Some(log) = &self.log {
             log.tell_unserved(&self.rt);
+        }
+    }
+
+    fn tell_unasked(&mut self, job: &Job) {
+        if let Some(log) = &self.log {
+            log.tell_unasked(&self.rt, job);
         }
     }
 

@@ -1,8 +1,10 @@
 -- What steps of a client make of what it fits.
 use Rattle.gateway_loop.proofs.Words.{◌≡◌, ℕ, ◌<◌, Bool, true, false, List, [], ◌∷◌, ◌++◌, length, take, Option, None, Some, refl, sym, ap, ◌∙◌, subst, append_assoc, append-nil, ◌==◌, eq-eqb, map-append, PlanRecord, Event, Piece, HangUp, Closing, Occurs, connections, is_opening, stream, succeeds, History, after_event, after_opening, Past, marked, IsPrefixOf, answer_of, queued, Placed, occurrences, GatewayValue, Served, after_reply, ClientValue, client_value, is_drain, moment_in, result_in, Fits, FitsOn, HasStood, IsQuiet, Leads, MakesSteps, Stands, lingering, LoopLaws}
 use Rattle.std.proofs.lemmas.Bool.Decides.{nat_tests}
+use Rattle.std.specs.Prelude.{drop}
 use Rattle.std.proofs.Common.{arith}
 use Rattle.std.proofs.lemmas.Grind.{flat_map-append}
+use Rattle.std.proofs.lemmas.List.{take-append-drop}
 use Rattle.gateway_model.specs.declared.entry.ReplyEntry.{ReplyEntry}
 use Rattle.gateway_model.specs.Run.{bytes_of}
 use Rattle.gateway_theory.specs.Replies.{ReplyValue}
@@ -134,6 +136,66 @@ pub fits_piece : (conn n : ℕ) (lingers ended ended' : Bool) (given got waiting
     → given' ≡ given ++ take n piece → got' ≡ got → ended' ≡ ended → ended ≡ false → (plans : List PlanRecord) (h : History)
     → Fits plans h (client_value conn lingers given got ended waiting) → Fits plans (after_event (Piece conn (take n piece)) h) (client_value conn lingers given' got' ended' waiting)
 fits_piece conn n lingers ended ended' given got waiting given' got' piece not_left more same_got same on plans h f = search arith
+
+-- of one that lingers a piece was read, and dropped
+pub fits_dropped : (conn n : ℕ) (lingers ended ended' : Bool) (given got waiting given' got' piece : List ℕ) → lingers ≡ true
+    → given' ≡ given ++ take n piece → got' ≡ got → ended' ≡ ended
+    → FitsOn (client_value conn lingers given got ended waiting) (client_value conn lingers given' got' ended' waiting)
+fits_dropped conn n lingers ended ended' given got waiting given' got' piece left more same_got same = record {
+  conn = refl;
+  fits = λ plans h f. record {
+    stands = λ off. absurd (off_is_not lingers off left);
+    stood = λ on.
+        let s = f.stood on in
+        let e = s.explained in record {
+          explained = record {
+            known = e.known;
+            dropped = e.dropped ++ take n piece;
+            read = more ∙ ap (λ (t : List ℕ). t ++ take n piece) e.read ∙ append_assoc (stream h.opened conn h.events) e.dropped (take n piece);
+            all_fed = λ off. absurd (off_is_not lingers off left);
+            hangs_up = λ off. absurd (off_is_not lingers off left);
+            no_other = λ hung. same ∙ e.no_other hung;
+            written = λ occurred all.
+                subst (λ (t : List ℕ). IsPrefixOf (t ++ waiting) (queued conn (marked (occurrences occurred)))) (sym same_got) (e.written occurred all);
+          };
+          closed = s.closed;
+        };
+  };
+}
+
+-- some of what waited was written
+pub fits_sent : (conn n : ℕ) (lingers ended ended' : Bool) (given got waiting given' got' : List ℕ) → given' ≡ given → got' ≡ got ++ take n waiting → ended' ≡ ended
+    → FitsOn (client_value conn lingers given got ended waiting) (client_value conn lingers given' got' ended' (drop n waiting))
+fits_sent conn n lingers ended ended' given got waiting given' got' same_given more same =
+    let whole : got' ++ drop n waiting ≡ got ++ waiting =
+    ap (λ (t : List ℕ). t ++ drop n waiting) more ∙ append_assoc got (take n waiting) (drop n waiting) ∙ ap (λ (t : List ℕ). got ++ t) (take-append-drop n waiting) in record {
+      conn = refl;
+      fits = λ plans h f. record {
+        stands = λ off.
+            let s = f.stands off in record {
+              known = s.known;
+              still_open = s.still_open;
+              read = same_given ∙ s.read;
+              hangs_up = s.hangs_up ∙ sym same;
+              written = λ occurred all. whole ∙ s.written occurred all;
+            };
+        stood = λ on.
+            let s = f.stood on in
+            let e = s.explained in record {
+              explained = record {
+                known = e.known;
+                dropped = e.dropped;
+                read = same_given ∙ e.read;
+                all_fed = e.all_fed;
+                hangs_up = λ off. e.hangs_up off ∙ sym same;
+                no_other = λ hung. same ∙ e.no_other hung;
+                written = λ occurred all.
+                    subst (λ (t : List ℕ). IsPrefixOf t (queued conn (marked (occurrences occurred)))) (sym whole) (e.written occurred all);
+              };
+              closed = s.closed;
+            };
+      };
+    }
 
 -- it hung up
 pub fits_hang_up : (conn : ℕ) (lingers ended ended' : Bool) (given got waiting given' got' : List ℕ) → lingers ≡ false

@@ -1,3 +1,5 @@
 pub mod Laws
 pub mod Clients
+pub mod Hints
 pub mod Loop
+pub mod NextTurns

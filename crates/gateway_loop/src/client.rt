@@ -1,12 +1,14 @@
 ghost use Rattle.std.specs.Prelude.{◌≡◌, false, [], ℕ, List};
+ghost use Rattle.std.specs.Borrow.{sem};
 ghost use Rattle.loop_model.specs.Clients.{client_value};
 ghost use Rattle.loop_model.specs.Growing.{Grows};
 ghost use Rattle.gateway_loop.specs.Clients.{FitsOn, MakesSteps, lingering};
 ghost use Rattle.gateway_model.specs.declared.event.Event.TheVariants.{HangUp, Piece};
 ghost use Rattle.gateway_theory.specs.Told.{TakesEvent};
 
+use crate::hints::Hints;
 use crate::limits::MOST_WRITES;
-use branch_asking::{Edges, Network};
+use branch_asking::Network;
 use gateway_core::{CallId, ConnId, Core, ReplyEntry, ReplyHook, RequestLabel};
 use http_pieces::Bytes;
 use std::alloc::Global;
@@ -23,6 +25,7 @@ pub(crate) struct Client<W: Wire> {
     outbox: Outbox,
     // the request whose reply waits in the outbox, what answers it, and what a log tells of it
     writing: Option<(CallId, ReplyEntry, RequestLabel)>,
+    hints: Hints,
 }
 
 impl<W: Wire> Model for Client<W> {
@@ -77,6 +80,8 @@ pub(crate) enum Written {
 }
 
 impl<W: Wire> Client<W> {
+    ghost use Rattle.gateway_loop.specs.Hints.{LendsHints};
+
     /// The client of a new connection.
     pub(crate) fn new(alloc: Global, wire: W, conn: ConnId) -> Client<W>
         requires { W.ended wire ≡ false }
@@ -88,7 +93,20 @@ impl<W: Wire> Client<W> {
             phase: Phase::Reads,
             outbox: Outbox::of(Bytes::new(alloc)),
             writing: None,
+            hints: Hints::new(alloc),
         }
+    }
+
+    /// What else is known of it.
+    pub(crate) fn hints(&self) -> &Hints {
+        &self.hints
+    }
+
+    /// The same, to be noted.
+    pub(crate) fn hints_mut(&mut self) -> &mut Hints
+        ensures* { sem 𝓛 (LendsHints W.row W.Wire self.entry result) }
+    {
+        &mut self.hints
     }
 
     /// Its stream.
@@ -114,8 +132,11 @@ impl<W: Wire> Client<W> {
         self.phase == Phase::Lingers
     }
 
-    /// Whether it is to be read, where its stream may have bytes: nothing waits to be written to it.
+    /// Whether it is to be read: its stream may have bytes, and nothing waits to be written to it.
     pub(crate) fn is_to_be_read<H: ReplyHook + Drop>(&self, core: &Core<H>) -> bool {
+        if !self.hints.edges.may_read {
+            return false;
+        }
         match self.phase {
             Phase::Reads => self.outbox.is_empty() && core.untaken(self.conn) == 0,
             Phase::Deaf => false,
@@ -123,22 +144,27 @@ impl<W: Wire> Client<W> {
         }
     }
 
+    /// Whether a reply is there for it, or its connection, if that is open, no longer brings requests or replies.
+    pub(crate) fn has_news<H: ReplyHook + Drop>(&self, core: &Core<H>) -> bool {
+        !self.lingers() && (core.untaken(self.conn) > 0 || core.ended(self.conn))
+    }
+
     /// Whether it is owed nothing, and brings nothing more.
     pub(crate) fn is_to_leave<H: ReplyHook + Drop>(&self, core: &Core<H>) -> bool {
         self.outbox.is_empty() && core.untaken(self.conn) == 0 && core.ended(self.conn)
     }
 
-    /// Whether each of its requests has its reply, and that was written.
+    /// Whether its connection is open, each of its requests has its reply, and that was written. One whose last bytes
+    /// made no request is not: its request may be half read.
     pub(crate) fn is_idle<H: ReplyHook + Drop>(&self, core: &Core<H>) -> bool {
+        if self.lingers() || self.hints.is_half_read {
+            return false;
+        }
         core.is_idle(self.conn) && core.untaken(self.conn) == 0 && self.outbox.is_empty()
     }
 
     /// Reads once, unless it brings nothing more, and hands on what came; if its connection was closed, it is dropped.
-    pub(crate) fn read<H: ReplyHook + Drop>(
-        &mut self,
-        core: &mut Core<H>,
-        edges: &mut Edges,
-    ) -> Heard
+    pub(crate) fn read<H: ReplyHook + Drop>(&mut self, core: &mut Core<H>) -> Heard
         ensures steps { MakesSteps core.old core.new self.old self.new }
         ensures grows { Grows self.old self.new }
     {
@@ -148,19 +174,19 @@ impl<W: Wire> Client<W> {
         let mut piece = [0u8; PIECE];
         match self.wire.read(&mut piece) {
             Got::Bytes(count) => {
-                edges.has_read(count);
+                self.hints.edges.has_read(count);
                 if self.phase == Phase::Lingers {
                     return Heard::Nothing;
                 }
                 take_in(core, self.conn, &piece[..count])
             }
             Got::Nothing => {
-                edges.may_read = false;
+                self.hints.edges.may_read = false;
                 Heard::Nothing
             }
             Got::Interrupted => Heard::Nothing,
             Got::End(_) => {
-                edges.may_read = false;
+                self.hints.edges.may_read = false;
                 if self.phase == Phase::Reads {
                     hang_up(core, self.conn);
                     self.phase = Phase::Deaf;
@@ -175,7 +201,6 @@ impl<W: Wire> Client<W> {
         &mut self,
         core: &mut Core<H>,
         net: &mut N,
-        edges: &mut Edges,
     ) -> Written
         ensures steps { MakesSteps core.old core.new self.old self.new }
         ensures grows { Grows self.old self.new }
@@ -183,7 +208,7 @@ impl<W: Wire> Client<W> {
     {
         for _write in 0..MOST_WRITES {
             self.fill(core);
-            if let Some(written) = self.send(net, edges) {
+            if let Some(written) = self.send(net) {
                 return written;
             }
         }
@@ -207,7 +232,7 @@ impl<W: Wire> Client<W> {
     }
 
     /// Writes once of what waits. Answers what writing came to, if it goes on no more.
-    fn send<N: Network<W>>(&mut self, net: &mut N, edges: &mut Edges) -> Option<Written>
+    fn send<N: Network<W>>(&mut self, net: &mut N) -> Option<Written>
         ensures fits { FitsOn self.old self.new }
         ensures grows { Grows self.old self.new }
         ensures told { N.told net.new ≡ N.told net.old }
@@ -215,7 +240,7 @@ impl<W: Wire> Client<W> {
         if self.outbox.is_empty() {
             return Some(Written::All);
         }
-        if !edges.may_write {
+        if !self.hints.edges.may_write {
             return Some(Written::Waits);
         }
         match self.wire.write(&self.outbox) {
@@ -227,7 +252,7 @@ impl<W: Wire> Client<W> {
                 None
             }
             Sent::Nothing => {
-                edges.may_write = false;
+                self.hints.edges.may_write = false;
                 None
             }
             Sent::Interrupted => Some(Written::More),

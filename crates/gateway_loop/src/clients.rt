@@ -9,13 +9,12 @@ ghost use Rattle.loop_model.specs.Standing.{count_clients, count_lingering};
 use crate::client::{Client, Heard, Phase, Written};
 use crate::comings::Dealt;
 use crate::laws::loop_laws;
-use crate::limits::MOST_CLIENTS;
-use crate::moments::is_due;
+use crate::limits::{MOST_CLIENTS, is_due};
 use crate::tokens::client_token;
-use branch_asking::{Edges, Network};
+use branch_asking::{Network, Ready};
 use call_plan::Plans;
 use connect_codec::Outcome;
-use gateway_core::{ConnId, Core, Job, ReplyHook};
+use gateway_core::{Core, Job, ReplyHook};
 use http_server::Log;
 use slab::Slab;
 use std::alloc::{AllocError, Global};
@@ -74,9 +73,9 @@ impl<H: ReplyHook + Drop, W: Wire + Drop> Clients<H, W> {
         })
     }
 
-    /// Opens a connection for the stream: its number, and the place of its client. Where none can be opened, the
-    /// stream is closed without a byte.
-    pub(crate) fn open(&mut self, dealt: Dealt<H, W>) -> Option<(ConnId, usize)>
+    /// Opens a connection for the stream: the place of its client. Where none can be opened, the stream is closed
+    /// without a byte.
+    pub(crate) fn open(&mut self, dealt: Dealt<H, W>) -> Option<usize>
         ensures goes { Onward self.old self.new }
         ensures told { self.new.told ≡ self.old.told }
         ensures hands { HandsNothing self.old self.new }
@@ -90,11 +89,11 @@ impl<H: ReplyHook + Drop, W: Wire + Drop> Clients<H, W> {
         let place = self
             .clients
             .insert_reserved(Client::new(self.alloc, wire, conn));
-        Some((conn, place))
+        Some(place)
     }
 
     /// Reads the stream of the client in that place once, and hands on what came; of one that lingers it is dropped.
-    pub(crate) fn read(&mut self, place: usize, edges: &mut Edges) -> Heard
+    pub(crate) fn read(&mut self, place: usize) -> Heard
         ensures goes { Onward self.old self.new }
         ensures told { self.new.told ≡ self.old.told }
         ensures hands { HandsNothing self.old self.new }
@@ -103,18 +102,13 @@ impl<H: ReplyHook + Drop, W: Wire + Drop> Clients<H, W> {
         let Some(mut client) = self.clients.try_remove(place) else {
             return Heard::Nothing;
         };
-        let heard = client.read(&mut self.core, edges);
+        let heard = client.read(&mut self.core);
         let _place = self.clients.insert_reserved(client);
         heard
     }
 
     /// Writes what can be written of the replies that are there to the client in that place.
-    pub(crate) fn write<N: Network<W>>(
-        &mut self,
-        net: &mut N,
-        place: usize,
-        edges: &mut Edges,
-    ) -> Written
+    pub(crate) fn write<N: Network<W>>(&mut self, net: &mut N, place: usize) -> Written
         ensures goes { Onward self.old self.new }
         ensures told { self.new.told ≡ self.old.told }
         ensures same { N.told net.new ≡ N.told net.old }
@@ -124,7 +118,7 @@ impl<H: ReplyHook + Drop, W: Wire + Drop> Clients<H, W> {
         let Some(mut client) = self.clients.try_remove(place) else {
             return Written::All;
         };
-        let written = client.write(&mut self.core, net, edges);
+        let written = client.write(&mut self.core, net);
         let _place = self.clients.insert_reserved(client);
         written
     }
@@ -277,7 +271,7 @@ impl<H: ReplyHook + Drop, W: Wire + Drop> Clients<H, W> {
         Some(self.clients.get(place)?.phase())
     }
 
-    /// Whether the client in that place is to be read, where its stream may have bytes.
+    /// Whether the client in that place is to be read: its stream may have bytes.
     pub(crate) fn is_to_be_read(&self, place: usize) -> bool {
         matches!(self.clients.get(place), Some(client) if client.is_to_be_read(&self.core))
     }
@@ -295,14 +289,27 @@ impl<H: ReplyHook + Drop, W: Wire + Drop> Clients<H, W> {
         }
     }
 
-    /// Whether nothing is owed to the client in that place: each of its requests has its reply, and that was written.
-    pub(crate) fn is_idle(&self, place: usize) -> bool {
-        matches!(self.clients.get(place), Some(client) if client.is_idle(&self.core))
+    /// The place of the first client to whom nothing is owed: each of its requests has its reply, and that was written.
+    pub(crate) fn idle_place(&self) -> Option<usize> {
+        let mut clients = self.clients.iter();
+        let idle = clients.find(|client| client.1.is_idle(&self.core))?;
+        Some(idle.0)
     }
 
-    /// Whether a reply is there for the connection, or it no longer brings requests or replies.
-    pub(crate) fn may_have_news(&self, conn: ConnId) -> bool {
-        self.core.untaken(conn) > 0 || self.core.ended(conn)
+    /// The place of the client that waits for the job's answer.
+    pub(crate) fn client_of(&self, job: &Job) -> Option<usize> {
+        if !job.wanted() {
+            return None;
+        }
+        let conn = job.call().conn;
+        let mut clients = self.clients.iter();
+        let client = clients.find(|client| client.1.conn() == conn && !client.1.lingers())?;
+        Some(client.0)
+    }
+
+    /// Whether a reply is there for the client in that place, or its connection no longer brings requests or replies.
+    pub(crate) fn has_news(&self, place: usize) -> bool {
+        matches!(self.clients.get(place), Some(client) if client.has_news(&self.core))
     }
 
     /// The core.
@@ -310,5 +317,82 @@ impl<H: ReplyHook + Drop, W: Wire + Drop> Clients<H, W> {
         ensures { result.now ≡ self.now.core }
     {
         &self.core
+    }
+
+    /// The place of that one of the exchanges for the calls of the client in that place, by its number among them.
+    pub(crate) fn exchange_of(&self, place: usize, number: usize) -> Option<usize> {
+        Some(*self.clients.get(place)?.hints().exchanges.get(number)?)
+    }
+}
+
+// what else is known of them
+impl<H: ReplyHook + Drop, W: Wire + Drop> Clients<H, W> {
+    /// Something became possible at the stream of the client in that place.
+    pub(crate) fn note_ready(&mut self, place: usize, ready: Ready)
+        ensures { self.new ≡ self.old }
+    {
+        if let Some(client) = self.clients.get_mut(place) {
+            client.hints_mut().note_ready(ready);
+        }
+    }
+
+    /// Whether the client in that place is in the line from now on. Answers whether it was; true where nobody is there.
+    pub(crate) fn set_in_line(&mut self, place: usize, is_in_line: bool) -> bool
+        ensures { self.new ≡ self.old }
+    {
+        match self.clients.get_mut(place) {
+            Some(client) => client.hints_mut().set_in_line(is_in_line),
+            None => true,
+        }
+    }
+
+    /// Whether the client in that place is among those that may have news from now on. Answers whether it was; true
+    /// where nobody is there.
+    pub(crate) fn set_noted(&mut self, place: usize, is_noted: bool) -> bool
+        ensures { self.new ≡ self.old }
+    {
+        match self.clients.get_mut(place) {
+            Some(client) => client.hints_mut().set_noted(is_noted),
+            None => true,
+        }
+    }
+
+    /// Whether the last piece that the client in that place brought made no request.
+    pub(crate) fn set_half_read(&mut self, place: usize, is_half_read: bool)
+        ensures { self.new ≡ self.old }
+    {
+        if let Some(client) = self.clients.get_mut(place) {
+            client.hints_mut().set_half_read(is_half_read);
+        }
+    }
+
+    /// The exchange in that place is for the client. False for want of memory, and where nobody is there.
+    pub(crate) fn enlist(&mut self, client: usize, place: usize) -> bool
+        ensures { self.new ≡ self.old }
+    {
+        match self.clients.get_mut(client) {
+            Some(client) => client.hints_mut().enlist(place),
+            None => false,
+        }
+    }
+
+    /// The exchange in that place, which was for the client, is over.
+    pub(crate) fn forget_exchange(&mut self, client: usize, place: usize)
+        ensures { self.new ≡ self.old }
+    {
+        if let Some(client) = self.clients.get_mut(client) {
+            client.hints_mut().forget_exchange(place);
+        }
+    }
+
+    /// The places of the exchanges for the calls of the client in that place, which it has no longer.
+    pub(crate) fn take_exchanges(&mut self, place: usize) -> Vec<usize>
+        ensures { self.new ≡ self.old }
+    {
+        let alloc = self.alloc;
+        match self.clients.get_mut(place) {
+            Some(client) => client.hints_mut().take_exchanges(alloc),
+            None => Vec::new(alloc),
+        }
     }
 }

@@ -29,27 +29,17 @@ impl Ends {
         self.is_drained = true;
     }
 
-    /// Keeps what came of a branch, after so many milliseconds, until it is told. For want of memory it is not.
-    pub(crate) fn keep(&mut self, end: Option<BranchEnd>, took: u64) {
-        let Some(mut end) = end else {
-            return;
-        };
-        end.took = took;
+    /// Keeps what came of a branch until it is told. For want of memory it is not.
+    pub(crate) fn keep(&mut self, mut end: BranchEnd) {
         if self.is_drained && end.cause == Cause::NotWanted {
             end.cause = Cause::Drained;
         }
         let _ = self.waiting.push_back(end);
     }
 
-    /// Keeps what came of a branch whose backend was never asked, until it is told. For want of memory it is not.
-    pub(crate) fn keep_unasked(&mut self, end: Option<BranchEnd>) {
-        let Some(mut end) = end else {
-            return;
-        };
-        if end.cause == Cause::NotWanted {
-            end.cause = Cause::NeverAsked;
-        }
-        let _ = self.waiting.push_back(end);
+    /// Whether all was told.
+    pub(crate) fn is_empty(&self) -> bool {
+        self.waiting.is_empty()
     }
 
     /// Tells what came of branches.

@@ -5,7 +5,7 @@ use crate::comings::LookedUp;
 use crate::event_loop::EventLoop;
 use crate::limits::{CLOSING, MOST_ADDRESSES, MOST_EXCHANGES};
 use crate::tokens::exchange_token;
-use branch_asking::{Edges, Network, Progress};
+use branch_asking::{BranchEnd, Network, Progress};
 use branch_exchange::Loss;
 use gateway_core::{CallId, ReplyHook};
 use std::alloc::{AllocError, Global};
@@ -36,15 +36,11 @@ impl<H: ReplyHook + Drop, W: Wire + Drop> EventLoop<H, W> {
         ensures goes { Goes self.old self.new }
         ensures told { TellsLoop (N.told net.old) (N.told net.new) self.old self.new }
     {
-        let Some(client) = self.client_of_new(place) else {
-            return self.drop_new(place, Some(Loss::NotWanted));
+        let is_told = self.unasked.take_first();
+        let Some(client) = self.exchanges.client_of(place) else {
+            return self.drop_new(net, place, is_told);
         };
-        let began = self.clients().moment();
-        if !self.roster.begin(client, began) {
-            return self.drop_new(place, None);
-        }
-        let deadline = self.exchanges.deadline_of(place);
-        if !self.roster.enlist(client, place, deadline) {
+        if !self.enlist(client, place) {
             return self.lose(net, place, None);
         }
         if self.exchanges.is_over(place) {
@@ -57,24 +53,23 @@ impl<H: ReplyHook + Drop, W: Wire + Drop> EventLoop<H, W> {
         }
     }
 
-    /// The place of the client for whose call the new exchange in that place is, if its answer is wanted.
-    fn client_of_new(&self, place: usize) -> Option<usize> {
-        let job = self.exchanges.asking(place)?.job();
-        if !job.wanted() {
-            return None;
-        }
-        self.roster.client_of(job.call().conn)
+    /// The new exchange in that place is lost before anything else knows of it: nobody waits for it any more, and its
+    /// backend was never asked. That is told, if it was not yet.
+    fn drop_new<N: Network<W>>(&mut self, net: &mut N, place: usize, is_told: bool)
+        ensures goes { Goes self.old self.new }
+        ensures told { TellsLoop (N.told net.old) (N.told net.new) self.old self.new }
+    {
+        self.exchanges.lose(place, Some(Loss::NotWanted));
+        let finished = self.exchanges.finish(place);
+        tell_unasked(net, finished.map(|finished| finished.0), is_told);
     }
 
-    /// The new exchange in that place is lost by this before anything else knows of it; None for want of memory. Where
-    /// nobody waits for it any more, its backend was never asked.
-    fn drop_new(&mut self, place: usize, loss: Option<Loss>)
-        ensures goes { Goes self.old self.new }
-        ensures told { self.new.side.told ≡ self.old.side.told }
+    /// Gives the exchange in that place to its client, and sets its deadline. False for want of memory.
+    fn enlist(&mut self, client: usize, place: usize) -> bool
+        ensures { self.new ≡ self.old }
     {
-        self.exchanges.lose(place, loss);
-        let finished = self.exchanges.finish(place);
-        self.ends.keep_unasked(finished.map(|finished| finished.0));
+        let deadline = self.exchanges.deadline_of(place);
+        self.exchanges.enlist(client, place) && self.set_until(place, deadline)
     }
 
     /// Has the address of the exchange in that place looked up.
@@ -85,9 +80,9 @@ impl<H: ReplyHook + Drop, W: Wire + Drop> EventLoop<H, W> {
         let Some(asking) = self.exchanges.asking(place) else {
             return self.lose(net, place, Some(Loss::NoAddress));
         };
-        match self.roster.wait(net, asking.job().address(), place) {
-            Ok(true) => {}
-            Ok(false) => self.lose(net, place, Some(Loss::NoAddress)),
+        match self.names.wait(net, asking.job().address(), place) {
+            Ok(Some(number)) => self.exchanges.set_waits(place, Some(number)),
+            Ok(None) => self.lose(net, place, Some(Loss::NoAddress)),
             Err(_) => self.lose(net, place, None),
         }
     }
@@ -98,9 +93,10 @@ impl<H: ReplyHook + Drop, W: Wire + Drop> EventLoop<H, W> {
         ensures told { TellsLoop (N.told net.old) (N.told net.new) self.old self.new }
     {
         for looked_up in found.drain(..) {
-            let Some(places) = self.roster.found(looked_up.name.as_str()) else {
+            let Some(places) = self.names.found(looked_up.name.as_str()) else {
                 continue;
             };
+            self.exchanges.stop_waits(&places);
             for (_, place) in places.iter() {
                 self.go_to(net, *place, &looked_up);
             }
@@ -133,7 +129,7 @@ impl<H: ReplyHook + Drop, W: Wire + Drop> EventLoop<H, W> {
             if !self.exchanges.connect(net, place) {
                 break;
             }
-            match self.go_over(place) {
+            match self.exchanges.step(place) {
                 Progress::Refused(kind) => loss = Loss::Write(kind),
                 Progress::Ended => return self.end(net, place),
                 Progress::Waits => return self.watch(net, place, false),
@@ -141,19 +137,6 @@ impl<H: ReplyHook + Drop, W: Wire + Drop> EventLoop<H, W> {
             }
         }
         self.lose(net, place, Some(loss));
-    }
-
-    /// The exchange in that place writes its request to its new stream.
-    fn go_over(&mut self, place: usize) -> Progress
-        ensures goes { Goes self.old self.new }
-        ensures told { self.new.side.told ≡ self.old.side.told }
-    {
-        let Some(errand) = self.roster.errand(place) else {
-            return Progress::Waits;
-        };
-        errand.edges = Edges::new();
-        errand.has_ended = false;
-        self.exchanges.step(place, &mut errand.edges)
     }
 
     /// Watches the new stream of the exchange in that place, and sets its time.
@@ -166,7 +149,7 @@ impl<H: ReplyHook + Drop, W: Wire + Drop> EventLoop<H, W> {
         }
         let until = self.exchanges.attempt_until(place);
         let deadline = self.exchanges.deadline_of(place);
-        if !self.roster.set_time(place, until, deadline) {
+        if !self.set_until(place, until.or(deadline)) {
             return self.lose(net, place, None);
         }
         if more {
@@ -192,13 +175,10 @@ impl<H: ReplyHook + Drop, W: Wire + Drop> EventLoop<H, W> {
         ensures goes { Goes self.old self.new }
         ensures told { TellsLoop (N.told net.old) (N.told net.new) self.old self.new }
     {
-        let Some(errand) = self.roster.errand(place) else {
-            return;
-        };
-        let progress = self.exchanges.step(place, &mut errand.edges);
+        let progress = self.exchanges.step(place);
         // once its stream took a byte, it has all the time that its job has
         let deadline = self.exchanges.deadline_of(place);
-        if self.exchanges.is_connected(place) && !self.roster.set_time(place, None, deadline) {
+        if self.exchanges.is_connected(place) && !self.set_until(place, deadline) {
             return self.lose(net, place, None);
         }
         match progress {
@@ -225,7 +205,7 @@ impl<H: ReplyHook + Drop, W: Wire + Drop> EventLoop<H, W> {
         }
     }
 
-    /// The exchange in that place is lost by this; None for want of memory.
+    /// The exchange in that place is over, and lost by this if it had not ended; None for want of memory.
     pub(crate) fn lose<N: Network<W>>(&mut self, net: &mut N, place: usize, loss: Option<Loss>)
         ensures goes { Goes self.old self.new }
         ensures told { TellsLoop (N.told net.old) (N.told net.new) self.old self.new }
@@ -240,27 +220,65 @@ impl<H: ReplyHook + Drop, W: Wire + Drop> EventLoop<H, W> {
         ensures goes { Goes self.old self.new }
         ensures told { self.new.side.told ≡ self.old.side.told }
     {
-        let name = self.exchanges.asking(place)?.job().address();
-        let errand = self.roster.forget_exchange(place, name)?;
-        let (end, stream) = self.exchanges.finish(place)?;
-        let moment = self.clients().moment();
-        let took = moment.saturating_sub(errand.began);
+        let asking = self.exchanges.asking(place)?;
+        self.names
+            .leave(asking.job().address(), asking.errand().waits);
+        let _stopped = self.roster.set_until(exchange_token(place), None);
+        let (end, errand, stream) = self.exchanges.finish(place)?;
+        let client = errand.client?;
+        self.exchanges.forget_exchange(client, place);
         let call = end.job.call();
-        self.ends.keep(Some(end), took);
+        self.ends.keep(end);
         let stream = stream.filter(|_| !errand.has_ended);
-        let until = moment.saturating_add(CLOSING);
+        let until = self.clients().moment().saturating_add(CLOSING);
         self.closing.keep(stream, exchange_token(place), until);
-        Some((errand.client, call))
+        Some((client, call))
+    }
+
+    /// The exchange in that place goes on until then; None: as long as its backend lets it. False for want of memory.
+    fn set_until(&mut self, place: usize, until: Option<u64>) -> bool
+        ensures { self.new ≡ self.old }
+    {
+        !self.exchanges.set_until(place, until)
+            || self.roster.set_until(exchange_token(place), until)
+    }
+
+    /// The connection of a client was closed, which had these exchanges: they are given up.
+    pub(crate) fn give_up_all(&mut self, places: Vec<usize>)
+        ensures goes { Goes self.old self.new }
+        ensures told { self.new.side.told ≡ self.old.side.told }
+    {
+        self.unasked.note_ended();
+        self.give_up_places(places);
+    }
+
+    /// Gives up these exchanges, for which nobody waits any more.
+    fn give_up_places(&mut self, places: Vec<usize>)
+        ensures goes { Goes self.old self.new }
+        ensures told { self.new.side.told ≡ self.old.side.told }
+    {
+        for place in places {
+            self.give_up(place);
+        }
+    }
+
+    /// Calls of the client in that place may have ended: its exchanges are given up for which nobody waits any more.
+    pub(crate) fn give_up_unwanted(&mut self, client: usize)
+        ensures goes { Goes self.old self.new }
+        ensures told { self.new.side.told ≡ self.old.side.told }
+    {
+        self.unasked.note_ended();
+        self.give_up_each(client);
     }
 
     /// Gives up the exchanges of the client in that place for which nobody waits any more.
-    pub(crate) fn give_up_unwanted(&mut self, client: usize)
+    fn give_up_each(&mut self, client: usize)
         ensures goes { Goes self.old self.new }
         ensures told { self.new.side.told ≡ self.old.side.told }
     {
         let mut number = 0usize;
         for _exchange in 0..MOST_EXCHANGES {
-            let Some(place) = self.roster.exchange_of(client, number) else {
+            let Some(place) = self.clients().exchange_of(client, number) else {
                 return;
             };
             if self.exchanges.is_wanted(place) {
@@ -272,7 +290,7 @@ impl<H: ReplyHook + Drop, W: Wire + Drop> EventLoop<H, W> {
     }
 
     /// Gives up the exchange in that place: nobody waits for it any more.
-    pub(crate) fn give_up(&mut self, place: usize)
+    fn give_up(&mut self, place: usize)
         ensures goes { Goes self.old self.new }
         ensures told { self.new.side.told ≡ self.old.side.told }
     {
@@ -286,7 +304,8 @@ impl<H: ReplyHook + Drop, W: Wire + Drop> EventLoop<H, W> {
         let _ended = self.finish(place);
     }
 
-    /// There is no memory to serve the exchange in that place: it is over, since else it would hang.
+    /// There is no memory to serve the exchange in that place: it is over, since else it would hang, and what that
+    /// decides is seen to.
     pub(crate) fn starve_exchange(&mut self, place: usize)
         ensures goes { Goes self.old self.new }
         ensures told { self.new.side.told ≡ self.old.side.told }
@@ -294,7 +313,18 @@ impl<H: ReplyHook + Drop, W: Wire + Drop> EventLoop<H, W> {
         self.exchanges.lose(place, None);
         if let Some((client, _call)) = self.finish(place) {
             self.note(client);
+            self.give_up_unwanted(client);
         }
+    }
+}
+
+/// Tells that the backend of a branch is not asked, unless that is told already.
+fn tell_unasked<W: Wire, N: Network<W>>(net: &mut N, end: Option<BranchEnd>, is_told: bool)
+    ensures { N.told net.new ≡ N.told net.old }
+{
+    match end {
+        Some(end) if !is_told => net.tell_unasked(&end.job),
+        _ => {}
     }
 }
 

@@ -10,7 +10,11 @@ use crate::clients::Clients;
 use crate::closing::ClosingStreams;
 use crate::ends::Ends;
 use crate::exchanges::Exchanges;
+use crate::limits::MOST_EXCHANGES;
+use crate::names::Names;
+use crate::next_turn::NextTurn;
 use crate::roster::Roster;
+use crate::unasked::Unasked;
 use call_plan::Plans;
 use gateway_core::{ReplyHook, Tally};
 use std::alloc::{AllocError, Global};
@@ -38,10 +42,10 @@ pub struct EventLoop<H, W: Wire> {
     pub(crate) alloc: Global,
     pub(crate) exchanges: Exchanges<H, W>,
     pub(crate) roster: Roster,
+    pub(crate) names: Names,
     pub(crate) ends: Ends,
+    pub(crate) unasked: Unasked,
     pub(crate) closing: ClosingStreams<W>,
-    // something is left to be done at once
-    pub(crate) again: bool,
 }
 
 impl<H, W: Wire> Model for EventLoop<H, W> {
@@ -62,25 +66,33 @@ impl<H: ReplyHook + Drop, W: Wire + Drop> EventLoop<H, W> {
         Ok(EventLoop {
             alloc,
             roster: Roster::new(alloc)?,
+            names: Names::new(alloc),
             ends: Ends::new(alloc)?,
+            unasked: Unasked::new(alloc),
             closing: ClosingStreams::new(alloc)?,
-            again: false,
             exchanges: Exchanges::new(alloc, plans)?,
         })
     }
 
-    /// The moment at which a turn is due though nothing comes, in milliseconds; 0 if it is due at once, None if none
-    /// is.
-    pub fn next_turn(&self) -> Option<u64> {
-        if self.again {
-            return Some(0);
+    /// When the next turn is due, though nothing comes.
+    pub fn next_turn(&self) -> NextTurn {
+        if self.has_more() {
+            return NextTurn::AtOnce;
         }
         let deadline = self.clients().core().next_deadline();
         let untils = self.roster.next_until().into_iter();
-        untils
-            .chain(self.closing.next_until())
-            .chain(deadline)
-            .min()
+        let untils = untils.chain(self.closing.next_until());
+        NextTurn::by(untils.chain(deadline).min(), self.clients().moment())
+    }
+
+    /// Whether something is left to be done at once.
+    fn has_more(&self) -> bool {
+        let has_jobs = self.clients().core().waiting_jobs() > 0
+            && self.exchanges.len() < MOST_EXCHANGES;
+        has_jobs
+            || self.roster.line_len() > 0
+            || self.roster.noted_len() > 0
+            || !self.ends.is_empty()
     }
 
     /// How the loop stands.

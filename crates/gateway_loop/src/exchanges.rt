@@ -8,15 +8,14 @@ ghost use Rattle.loop_model.specs.Whole.{IsExplainedLoop, draining_loop};
 use crate::client::{Heard, Written};
 use crate::clients::Clients;
 use crate::comings::Dealt;
-use crate::limits::{ATTEMPT, MOST_EXCHANGES};
-use crate::moments::is_due;
-use crate::tokens::exchange_token;
-use branch_asking::{Asking, BranchEnd, Edges, Network, Progress};
+use crate::limits::{ATTEMPT, MOST_EXCHANGES, is_due};
+use crate::tokens::{Owner, exchange_token, owner_of};
+use branch_asking::{Asking, BranchEnd, Errand, Network, Progress, Ready};
 use branch_causes::Cause;
 use branch_exchange::Loss;
 use call_plan::Plans;
 use connect_codec::Outcome;
-use gateway_core::{ConnId, ReplyHook};
+use gateway_core::ReplyHook;
 use http_server::Log;
 use slab::Slab;
 use std::alloc::{AllocError, Global};
@@ -71,9 +70,9 @@ impl<H: ReplyHook + Drop, W: Wire + Drop> Exchanges<H, W> {
         &self.clients
     }
 
-    /// Opens a connection for the stream: its number, and the place of its client. Where none can be opened, the
-    /// stream is closed without a byte.
-    pub(crate) fn open(&mut self, dealt: Dealt<H, W>) -> Option<(ConnId, usize)>
+    /// Opens a connection for the stream: the place of its client. Where none can be opened, the stream is closed
+    /// without a byte.
+    pub(crate) fn open(&mut self, dealt: Dealt<H, W>) -> Option<usize>
         ensures goes { Goes self.old self.new }
         ensures told { self.new.side.told ≡ self.old.side.told }
     {
@@ -81,25 +80,20 @@ impl<H: ReplyHook + Drop, W: Wire + Drop> Exchanges<H, W> {
     }
 
     /// Reads the stream of the client in that place once, and hands on what came; of one that lingers it is dropped.
-    pub(crate) fn read(&mut self, place: usize, edges: &mut Edges) -> Heard
+    pub(crate) fn read(&mut self, place: usize) -> Heard
         ensures goes { Goes self.old self.new }
         ensures told { self.new.side.told ≡ self.old.side.told }
     {
-        self.clients.read(place, edges)
+        self.clients.read(place)
     }
 
     /// Writes what can be written of the replies that are there to the client in that place.
-    pub(crate) fn write<N: Network<W>>(
-        &mut self,
-        net: &mut N,
-        place: usize,
-        edges: &mut Edges,
-    ) -> Written
+    pub(crate) fn write<N: Network<W>>(&mut self, net: &mut N, place: usize) -> Written
         ensures goes { Goes self.old self.new }
         ensures told { self.new.side.told ≡ self.old.side.told }
         ensures same { N.told net.new ≡ N.told net.old }
     {
-        self.clients.write(net, place, edges)
+        self.clients.write(net, place)
     }
 
     /// Closes the connection of the client in that place, which lingers from then on: what still comes is dropped.
@@ -154,6 +148,11 @@ impl<H: ReplyHook + Drop, W: Wire + Drop> Exchanges<H, W> {
     /// The job that is asked for in that place.
     pub(crate) fn asking(&self, place: usize) -> Option<&Asking<W>> {
         self.asking.get(place)
+    }
+
+    /// The place of the client for whose call the exchange in that place is, if its answer was wanted as it began.
+    pub(crate) fn client_of(&self, place: usize) -> Option<usize> {
+        self.asking.get(place)?.errand().client
     }
 
     /// Whether somebody waits for the exchange in that place.
@@ -228,20 +227,21 @@ impl<H: ReplyHook + Drop, W: Wire + Drop> Exchanges<H, W> {
             return None;
         }
         let job = self.clients.take_job()?;
-        let asking = Asking::new(self.alloc, job);
+        let errand = Errand::new(self.clients.client_of(&job), self.clients.moment());
+        let asking = Asking::new(self.alloc, job, errand);
         asking.begun_law();
         Some(self.asking.insert_reserved(asking))
     }
 
     /// The exchange in that place writes what it can, and then reads what it can.
-    pub(crate) fn step(&mut self, place: usize, edges: &mut Edges) -> Progress
+    pub(crate) fn step(&mut self, place: usize) -> Progress
         ensures goes { Goes self.old self.new }
         ensures told { self.new.side.told ≡ self.old.side.told }
     {
         let Some(mut asking) = self.asking.try_remove(place) else {
             return Progress::Waits;
         };
-        let progress = asking.step(edges);
+        let progress = asking.step();
         asking.begun_law();
         let _place = self.asking.insert_reserved(asking);
         progress
@@ -290,7 +290,8 @@ impl<H: ReplyHook + Drop, W: Wire + Drop> Exchanges<H, W> {
         let _place = self.asking.insert_reserved(asking);
     }
 
-    /// The exchange in that place is over: it is lost by this, whatever was read; None for want of memory.
+    /// The exchange in that place is over. One that had not ended is lost by this, whatever was read; None for want of
+    /// memory.
     pub(crate) fn lose(&mut self, place: usize, loss: Option<Loss>)
         ensures goes { Goes self.old self.new }
         ensures told { self.new.side.told ≡ self.old.side.told }
@@ -303,9 +304,9 @@ impl<H: ReplyHook + Drop, W: Wire + Drop> Exchanges<H, W> {
         let _place = self.asking.insert_reserved(asking);
     }
 
-    /// Records what came of the exchange in that place, which leaves it: how long it took is not told there. Its stream
-    /// too, if its reply came whole.
-    pub(crate) fn finish(&mut self, place: usize) -> Option<(BranchEnd, Option<W>)>
+    /// Records what came of the exchange in that place, which leaves it: that, what was noted of it, and its stream, if
+    /// its reply came whole.
+    pub(crate) fn finish(&mut self, place: usize) -> Option<(BranchEnd, Errand, Option<W>)>
         ensures goes { Goes self.old self.new }
         ensures told { self.new.side.told ≡ self.old.side.told }
     {
@@ -316,14 +317,110 @@ impl<H: ReplyHook + Drop, W: Wire + Drop> Exchanges<H, W> {
         let outcome = asking.conclude(self.alloc);
         let cause = cause.settled(&outcome);
         self.ended = self.ended.and(&asking, &outcome);
-        let (job, stream) = asking.into_parts();
+        let (job, errand, stream) = asking.into_parts();
         self.clients.record(&job, outcome);
+        let took = self.clients.moment().saturating_sub(errand.began);
         let end = BranchEnd {
             job,
             cause,
             status,
-            took: 0,
+            took,
         };
-        Some((end, stream.filter(|_| is_whole)))
+        Some((end, errand, stream.filter(|_| is_whole)))
+    }
+}
+
+// what else is known of clients and exchanges
+impl<H: ReplyHook + Drop, W: Wire + Drop> Exchanges<H, W> {
+    /// Something became possible at the stream of whom the token names; whether that may be told of another's, too, that
+    /// had the token before.
+    pub(crate) fn note_ready(&mut self, ready: Ready, is_shared: bool)
+        ensures { self.new ≡ self.old }
+    {
+        match owner_of(ready.token) {
+            Owner::Client(place) => self.clients.note_ready(place, ready),
+            Owner::Exchange(place) => {
+                if let Some(asking) = self.asking.get_mut(place) {
+                    asking.errand_mut().note_ready(ready, is_shared);
+                }
+            }
+        }
+    }
+
+    /// Whether who has that place is in the line from now on. Answers whether it was; true where nobody is there.
+    pub(crate) fn set_in_line(&mut self, owner: Owner, is_in_line: bool) -> bool
+        ensures { self.new ≡ self.old }
+    {
+        match owner {
+            Owner::Client(place) => self.clients.set_in_line(place, is_in_line),
+            Owner::Exchange(place) => match self.asking.get_mut(place) {
+                Some(asking) => asking.errand_mut().set_in_line(is_in_line),
+                None => true,
+            },
+        }
+    }
+
+    /// Whether the client in that place is among those that may have news from now on. Answers whether it was; true
+    /// where nobody is there.
+    pub(crate) fn set_noted(&mut self, place: usize, is_noted: bool) -> bool
+        ensures { self.new ≡ self.old }
+    {
+        self.clients.set_noted(place, is_noted)
+    }
+
+    /// Whether the last piece that the client in that place brought made no request.
+    pub(crate) fn set_half_read(&mut self, place: usize, is_half_read: bool)
+        ensures { self.new ≡ self.old }
+    {
+        self.clients.set_half_read(place, is_half_read);
+    }
+
+    /// The exchange in that place is for the client. False for want of memory, and where nobody is there.
+    pub(crate) fn enlist(&mut self, client: usize, place: usize) -> bool
+        ensures { self.new ≡ self.old }
+    {
+        self.clients.enlist(client, place)
+    }
+
+    /// The exchange in that place, which was for the client, is over.
+    pub(crate) fn forget_exchange(&mut self, client: usize, place: usize)
+        ensures { self.new ≡ self.old }
+    {
+        self.clients.forget_exchange(client, place);
+    }
+
+    /// The places of the exchanges for the calls of the client in that place, which it has no longer.
+    pub(crate) fn take_exchanges(&mut self, place: usize) -> Vec<usize>
+        ensures { self.new ≡ self.old }
+    {
+        self.clients.take_exchanges(place)
+    }
+
+    /// The exchange in that place goes on until then. Answers whether that is new.
+    pub(crate) fn set_until(&mut self, place: usize, until: Option<u64>) -> bool
+        ensures { self.new ≡ self.old }
+    {
+        match self.asking.get_mut(place) {
+            Some(asking) => asking.errand_mut().set_until(until),
+            None => false,
+        }
+    }
+
+    /// The exchange in that place waits for its name under this number, or no more.
+    pub(crate) fn set_waits(&mut self, place: usize, waits: Option<usize>)
+        ensures { self.new ≡ self.old }
+    {
+        if let Some(asking) = self.asking.get_mut(place) {
+            asking.errand_mut().set_waits(waits);
+        }
+    }
+
+    /// The exchanges in these places wait for their names no more.
+    pub(crate) fn stop_waits(&mut self, places: &Slab<usize>)
+        ensures { self.new ≡ self.old }
+    {
+        for (_, place) in places.iter() {
+            self.set_waits(*place, None);
+        }
     }
 }

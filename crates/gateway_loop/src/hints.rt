@@ -1,7 +1,8 @@
-use branch_asking::Edges;
+use branch_asking::{Edges, Ready};
 use std::alloc::Global;
+use std::mem;
 
-/// What else is known of the client in a place. No law speaks of it.
+/// What else a loop knows of a client. No law speaks of it.
 #[derive(Drop)]
 pub(crate) struct Hints {
     pub(crate) edges: Edges,
@@ -27,43 +28,39 @@ impl Hints {
         }
     }
 
+    /// Something became possible.
+    pub(crate) fn note_ready(&mut self, ready: Ready) {
+        self.edges.note(ready);
+    }
+
+    /// Whether it is in the line from now on. Answers whether it was.
+    pub(crate) fn set_in_line(&mut self, is_in_line: bool) -> bool {
+        mem::replace(&mut self.is_in_line, is_in_line)
+    }
+
+    /// Whether it is among those that may have news from now on. Answers whether it was.
+    pub(crate) fn set_noted(&mut self, is_noted: bool) -> bool {
+        mem::replace(&mut self.is_noted, is_noted)
+    }
+
+    pub(crate) fn set_half_read(&mut self, is_half_read: bool) {
+        self.is_half_read = is_half_read;
+    }
+
+    /// The exchange in that place is for it. False for want of memory.
+    pub(crate) fn enlist(&mut self, place: usize) -> bool {
+        self.exchanges.push(place).is_ok()
+    }
+
+    /// The places of its exchanges, which it has no longer.
+    pub(crate) fn take_exchanges(&mut self, alloc: Global) -> Vec<usize> {
+        mem::replace(&mut self.exchanges, Vec::new(alloc))
+    }
+
     /// The exchange in that place is over.
     pub(crate) fn forget_exchange(&mut self, place: usize) {
         if let Some(index) = self.exchanges.iter().position(|other| *other == place) {
             self.exchanges.swap_remove(index);
-        }
-    }
-}
-
-/// What else is known of the exchange in a place. No law speaks of it.
-#[derive(Drop)]
-pub(crate) struct Errand {
-    // the place of its client
-    pub(crate) client: usize,
-    // the moment at which it began
-    pub(crate) began: u64,
-    pub(crate) edges: Edges,
-    // whether its backend is known to have ended its stream
-    pub(crate) has_ended: bool,
-    // whether its time limit is that of its address
-    pub(crate) is_timed: bool,
-    // its number among those that wait for its name
-    pub(crate) waits: Option<usize>,
-    // whether it is in the line of those that are to be served
-    pub(crate) is_in_line: bool,
-}
-
-impl Errand {
-    /// Of an exchange for the client in that place, which begins at that moment.
-    pub(crate) fn new(client: usize, began: u64) -> Errand {
-        Errand {
-            client,
-            began,
-            edges: Edges::new(),
-            has_ended: false,
-            is_timed: false,
-            waits: None,
-            is_in_line: false,
         }
     }
 }

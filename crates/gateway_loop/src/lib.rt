@@ -13,13 +13,17 @@ mod exchanges;
 mod hints;
 mod laws;
 mod limits;
-mod moments;
 mod names;
+mod next_turn;
 mod roster;
 mod serving;
 mod tokens;
+mod turn;
+mod unasked;
 
 pub use branch_asking::{BranchEnd, Network, Ready};
+pub use branch_causes::Cause;
 pub use comings::{Comings, Dealt, LookedUp};
 pub use event_loop::{EventLoop, LoopStanding};
 pub use limits::{MOST_ADDRESSES, MOST_CLOSING, MOST_EXCHANGES, MOST_LINGERING};
+pub use next_turn::NextTurn;

@@ -30,3 +30,8 @@ pub(crate) const CLOSING: u64 = 50;
 
 /// How long an address has to accept that another follows, where the job has no deadline, in milliseconds.
 pub(crate) const ATTEMPT: u64 = 1_000;
+
+/// Whether the deadline has come.
+pub(crate) fn is_due(deadline: Option<u64>, moment: u64) -> bool {
+    matches!(deadline, Some(deadline) if deadline <= moment)
+}

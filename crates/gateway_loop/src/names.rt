@@ -48,8 +48,11 @@ impl Names {
         Ok(Some(number))
     }
 
-    /// Who waits under this number waits no more.
-    pub(crate) fn leave(&mut self, name: &str, number: usize) {
+    /// Who waits under this number, if there is one, waits no more.
+    pub(crate) fn leave(&mut self, name: &str, number: Option<usize>) {
+        let Some(number) = number else {
+            return;
+        };
         if let Some(index) = self.index(name) {
             let _place = self.names[index].places.try_remove(number);
         }

@@ -5,8 +5,8 @@ ghost use Rattle.std.specs.Prelude.{◌≡◌};
 use crate::client::{Heard, Phase, Written};
 use crate::comings::Dealt;
 use crate::event_loop::EventLoop;
-use crate::limits::{LINGER, MOST_LINGERING, MOST_TIMERS};
-use crate::tokens::{Owner, client_token, owner_of};
+use crate::limits::{LINGER, MOST_LINGERING};
+use crate::tokens::client_token;
 use branch_asking::Network;
 use gateway_core::ReplyHook;
 use std::collections::VecDeque;
@@ -34,26 +34,12 @@ impl<H: ReplyHook + Drop, W: Wire + Drop> EventLoop<H, W> {
         ensures goes { Goes self.old self.new }
         ensures told { TellsLoop (N.told net.old) (N.told net.new) self.old self.new }
     {
-        let Some((conn, place)) = self.exchanges.open(dealt) else {
+        let Some(place) = self.exchanges.open(dealt) else {
             return net.tell_unserved();
         };
-        if !self.roster.admit(conn, place) || !self.clients().watch(net, place) {
+        if !self.clients().watch(net, place) {
             self.drop_client(place);
             net.tell_unserved();
-        }
-    }
-
-    /// Whom the token names is to be served. Where there is no memory for that it is let go, since it would hang.
-    pub(crate) fn line_up(&mut self, token: usize)
-        ensures goes { Goes self.old self.new }
-        ensures told { self.new.side.told ≡ self.old.side.told }
-    {
-        if self.roster.line_up(token) {
-            return;
-        }
-        match owner_of(token) {
-            Owner::Client(place) => self.drop_client(place),
-            Owner::Exchange(place) => self.starve_exchange(place),
         }
     }
 
@@ -62,29 +48,25 @@ impl<H: ReplyHook + Drop, W: Wire + Drop> EventLoop<H, W> {
         ensures goes { Goes self.old self.new }
         ensures told { self.new.side.told ≡ self.old.side.told }
     {
+        if self.exchanges.set_noted(place, true) {
+            return;
+        }
         if !self.roster.note(place) {
             self.drop_client(place);
         }
     }
 
-    /// Serves those that stand in the line now, each once.
-    pub(crate) fn serve_line<N: Network<W>>(&mut self, net: &mut N)
-        ensures goes { Goes self.old self.new }
-        ensures told { TellsLoop (N.told net.old) (N.told net.new) self.old self.new }
+    /// Takes the first of the clients that were noted: its place.
+    fn next_noted(&mut self) -> Option<usize>
+        ensures { self.new ≡ self.old }
     {
-        for _token in 0..self.roster.line_len() {
-            let Some(owner) = self.roster.next_in_line() else {
-                return;
-            };
-            match owner {
-                Owner::Client(place) => self.serve_client(net, place),
-                Owner::Exchange(place) => self.serve_exchange(net, place),
-            }
-        }
+        let place = self.roster.next_noted()?;
+        let _was_noted = self.exchanges.set_noted(place, false);
+        Some(place)
     }
 
     /// Reads the client's stream once, if it is to be read.
-    fn serve_client<N: Network<W>>(&mut self, net: &mut N, place: usize)
+    pub(crate) fn serve_client<N: Network<W>>(&mut self, net: &mut N, place: usize)
         ensures goes { Goes self.old self.new }
         ensures told { TellsLoop (N.told net.old) (N.told net.new) self.old self.new }
     {
@@ -106,24 +88,16 @@ impl<H: ReplyHook + Drop, W: Wire + Drop> EventLoop<H, W> {
         ensures goes { Goes self.old self.new }
         ensures told { self.new.side.told ≡ self.old.side.told }
     {
-        if !self.is_to_be_read(place) {
+        if !self.clients().is_to_be_read(place) {
             return Heard::Nothing;
         }
-        let Some(hints) = self.roster.client(place) else {
-            return Heard::Nothing;
-        };
-        let requests = self.exchanges.clients().requests(place);
-        let heard = self.exchanges.read(place, &mut hints.edges);
+        let requests = self.clients().requests(place);
+        let heard = self.exchanges.read(place);
         if heard == Heard::Piece {
-            hints.is_half_read = self.exchanges.clients().requests(place) == requests;
+            let is_half_read = self.clients().requests(place) == requests;
+            self.exchanges.set_half_read(place, is_half_read);
         }
         heard
-    }
-
-    /// Whether the client in that place is to be read: its stream may have bytes, and nothing waits to be written to
-    /// it.
-    fn is_to_be_read(&self, place: usize) -> bool {
-        self.roster.may_read(place) && self.clients().is_to_be_read(place)
     }
 
     /// Writes to the clients for whom something may be there. Answers whether there were any.
@@ -133,7 +107,7 @@ impl<H: ReplyHook + Drop, W: Wire + Drop> EventLoop<H, W> {
     {
         let count = self.roster.noted_len();
         for _client in 0..count {
-            if let Some(place) = self.roster.next_noted() {
+            if let Some(place) = self.next_noted() {
                 self.write_client(net, place);
             }
         }
@@ -146,22 +120,19 @@ impl<H: ReplyHook + Drop, W: Wire + Drop> EventLoop<H, W> {
         ensures told { TellsLoop (N.told net.old) (N.told net.new) self.old self.new }
     {
         if self.clients().phase(place) == Some(Phase::Lingers) {
-            if self.roster.may_read(place) {
+            if self.clients().is_to_be_read(place) {
                 self.line_up(client_token(place));
             }
             return;
         }
-        let Some(hints) = self.roster.client(place) else {
-            return;
-        };
-        let written = self.exchanges.write(net, place, &mut hints.edges);
+        let written = self.exchanges.write(net, place);
         if written == Written::Failed {
             self.clients().tell_broken(net, place);
             self.drop_client(place);
         } else if self.clients().is_to_leave(place) {
             self.clients().tell_broken(net, place);
             self.leave(place);
-        } else if written == Written::More || self.is_to_be_read(place) {
+        } else if written == Written::More || self.clients().is_to_be_read(place) {
             self.line_up(client_token(place));
         }
     }
@@ -172,20 +143,12 @@ impl<H: ReplyHook + Drop, W: Wire + Drop> EventLoop<H, W> {
         ensures continues { ContinuesLoop self.old self.new }
         ensures told { self.new.side.told ≡ self.old.side.told }
     {
-        for _open in 0..self.roster.open().len() {
-            let Some(place) = self.idle_place() else {
+        for _client in 0..self.clients().len() {
+            let Some(place) = self.clients().idle_place() else {
                 return;
             };
             self.leave(place);
         }
-    }
-
-    /// The place of the first client to whom nothing is owed.
-    fn idle_place(&self) -> Option<usize> {
-        let open = self.roster.open().iter().find(|open| {
-            self.clients().is_idle(open.1) && !self.roster.is_half_read(open.1)
-        })?;
-        Some(open.1)
     }
 
     /// The connection of the client in that place is closed. Its stream lingers, so that what was written is not lost
@@ -196,12 +159,13 @@ impl<H: ReplyHook + Drop, W: Wire + Drop> EventLoop<H, W> {
     {
         let lingers = self.clients().phase(place) == Some(Phase::Reads)
             && self.clients().lingering() < MOST_LINGERING;
+        let exchanges = self.exchanges.take_exchanges(place);
         self.exchanges.leave(place);
-        self.close(place);
+        self.give_up_all(exchanges);
         let until = self.clients().moment().saturating_add(LINGER);
-        if !lingers || !self.roster.linger(place, until) {
+        if !lingers || !self.roster.set_until(client_token(place), Some(until)) {
             self.drop_client(place);
-        } else if self.roster.may_read(place) {
+        } else if self.clients().is_to_be_read(place) {
             self.line_up(client_token(place));
         }
     }
@@ -211,45 +175,9 @@ impl<H: ReplyHook + Drop, W: Wire + Drop> EventLoop<H, W> {
         ensures goes { Goes self.old self.new }
         ensures told { self.new.side.told ≡ self.old.side.told }
     {
+        let exchanges = self.exchanges.take_exchanges(place);
         self.exchanges.let_go(place);
-        self.close(place);
-        self.roster.forget_client(place);
-    }
-
-    /// The connection of the client in that place was closed: its exchanges are given up.
-    fn close(&mut self, place: usize)
-        ensures goes { Goes self.old self.new }
-        ensures told { self.new.side.told ≡ self.old.side.told }
-    {
-        for exchange in self.roster.close(place) {
-            self.give_up(exchange);
-        }
-    }
-
-    /// Ends the exchanges whose time is over, and lets go of clients and streams that waited long enough.
-    pub(crate) fn expire<N: Network<W>>(&mut self, net: &mut N)
-        ensures goes { Goes self.old self.new }
-        ensures told { TellsLoop (N.told net.old) (N.told net.new) self.old self.new }
-    {
-        let moment = self.clients().moment();
-        self.closing.expire(moment);
-        self.expire_timers(net);
-    }
-
-    /// Ends the exchanges whose time is over, and lets go of clients that lingered long enough.
-    fn expire_timers<N: Network<W>>(&mut self, net: &mut N)
-        ensures goes { Goes self.old self.new }
-        ensures told { TellsLoop (N.told net.old) (N.told net.new) self.old self.new }
-    {
-        for _timer in 0..MOST_TIMERS {
-            let moment = self.clients().moment();
-            let Some(owner) = self.roster.pop_due(moment) else {
-                return;
-            };
-            match owner {
-                Owner::Client(place) => self.drop_client(place),
-                Owner::Exchange(place) => self.time_out(net, place),
-            }
-        }
+        let _stopped = self.roster.set_until(client_token(place), None);
+        self.give_up_all(exchanges);
     }
 }

@@ -1,6 +1,6 @@
 use crate::stream::{MemoryEnd, MemoryStream, memory_stream};
 use branch_causes::Cause;
-use gateway_core::{CallId, ConnId, ReplyEntry, RequestLabel};
+use gateway_core::{CallId, ConnId, Job, ReplyEntry, RequestLabel};
 use gateway_loop::{BranchEnd, Network};
 use http_server::Log;
 use std::alloc::{AllocError, Global};
@@ -24,6 +24,7 @@ pub struct ScriptedNetwork {
     labels: Option<Vec<(Option<String>, Option<String>)>>,
     broken: Vec<ConnId>,
     ended: Vec<(u32, Cause)>,
+    unasked: Vec<(CallId, u32, bool)>,
     unserved: u64,
     watches: u64,
     watch_failing: Option<u64>,
@@ -46,6 +47,7 @@ impl ScriptedNetwork {
             labels: None,
             broken: Vec::new(alloc),
             ended: Vec::new(alloc),
+            unasked: Vec::new(alloc),
             unserved: 0,
             watches: 0,
             watch_failing: None,
@@ -115,6 +117,12 @@ impl ScriptedNetwork {
     /// The branches that were asked for, by their numbers, and what ended each, in order.
     pub fn ended(&self) -> &[(u32, Cause)] {
         self.ended.as_slice()
+    }
+
+    /// The branches that were told not to be asked, by their calls and their numbers, in order; and whether the reply to
+    /// that call was told before.
+    pub fn unasked(&self) -> &[(CallId, u32, bool)] {
+        self.unasked.as_slice()
     }
 
     /// The requests whose replies were written whole, in order.
@@ -204,6 +212,11 @@ impl Network<Told<MemoryStream>> for ScriptedNetwork {
 
     fn tell_unserved(&mut self) {
         self.unserved = self.unserved.saturating_add(1);
+    }
+
+    fn tell_unasked(&mut self, job: &Job) {
+        let id = job.call();
+        let _ = self.unasked.push((id, job.branch(), self.told.iter().any(|told| *told == id)));
     }
 
     fn tell_branch(&mut self, end: &BranchEnd) {

@@ -1,8 +1,8 @@
 use Rattle.gateway_loop.proofs.Words.{◌≡◌, ap, refl, rules, take, HangUp, Piece, lingers_in}
 use Rattle.gateway_loop.proofs.GrowLemmas.{grows_by, no_more}
 use Rattle.gateway_loop.proofs.LeadLemmas.{hang_up_elsewhere, piece_elsewhere}
-use Rattle.gateway_loop.proofs.StepLemmas.{fits_hang_up, fits_piece, fits_still, steps_event, steps_fit}
-use Rattle.gateway_loop.specs.declared.client.Phase.TheVariants.{Reads}
+use Rattle.gateway_loop.proofs.StepLemmas.{fits_dropped, fits_hang_up, fits_piece, fits_still, steps_event, steps_fit}
+use Rattle.gateway_loop.specs.declared.client.Phase.TheVariants.{Lingers, Reads}
 use Rattle.gateway_loop.proofs.client.Client.read.Goals as goal
 
 pub returns-else-eq-2-clause-steps : goal.returns-else-eq-2-clause-steps
@@ -15,6 +15,14 @@ returns-else-eq-2-clause-steps g c =
     (steps_event c.args.core.now c.take_in.new.core _ _ (Piece i.conn bytes) c.take_in.ensures.plans refl c.take_in.ensures.stands
     (fits_piece i.conn c.in-Bytes.count (lingers_in i.phase) (g.W.Wire.ended i.wire) _ (g.W.Wire.given i.wire) (g.W.Wire.got i.wire) i.outbox _ _ c.read.new.piece (ap lingers_in reads) e.given.2 e.got e.ended
     (c.self.invariant reads)) (λ d off. piece_elsewhere i.conn bytes d off) refl refl refl refl)
+
+pub returns-then-eq-2-clause-steps : goal.returns-then-eq-2-clause-steps
+returns-then-eq-2-clause-steps g c =
+    let i = c.self.inside in
+    let e = c.in-Bytes.ensures in
+    let left : i.phase ≡ Lingers = search rules in
+    rw (← c.self.view_is)
+    (steps_fit _ _ _ (fits_dropped i.conn c.in-Bytes.count (lingers_in i.phase) (g.W.Wire.ended i.wire) _ (g.W.Wire.given i.wire) (g.W.Wire.got i.wire) i.outbox _ _ c.read.new.piece (ap lingers_in left) e.given.2 e.got e.ended))
 
 pub returns-then-eq-3-clause-steps : goal.returns-then-eq-3-clause-steps
 returns-then-eq-3-clause-steps g c =

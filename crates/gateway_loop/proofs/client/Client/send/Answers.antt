@@ -1,7 +1,21 @@
-use Rattle.gateway_loop.proofs.Words.{◌∙◌}
+use Rattle.gateway_loop.proofs.Words.{◌∙◌, lingers_in}
 use Rattle.gateway_loop.proofs.GrowLemmas.{grows_by, grows_same, no_more}
-use Rattle.gateway_loop.proofs.StepLemmas.{fits_as_before, fits_still}
+use Rattle.gateway_loop.proofs.StepLemmas.{fits_as_before, fits_sent, fits_still}
 use Rattle.gateway_loop.proofs.client.Client.send.Goals as goal
+
+pub returns-then-is_empty-2-clause-fits : goal.returns-then-is_empty-2-clause-fits
+returns-then-is_empty-2-clause-fits g c =
+    let i = c.self.inside in
+    let e = c.in-Bytes.ensures in
+    rw (c.tell.ensures.same, ← c.self.view_is, c.sent.ensures)
+    (fits_sent i.conn c.in-Bytes.count (lingers_in i.phase) (g.W.Wire.ended i.wire) _ (g.W.Wire.given i.wire) (g.W.Wire.got i.wire) i.outbox _ _ e.given e.got.2 e.ended)
+
+pub returns-else-is_empty-2-clause-fits : goal.returns-else-is_empty-2-clause-fits
+returns-else-is_empty-2-clause-fits g c =
+    let i = c.self.inside in
+    let e = c.in-Bytes.ensures in
+    rw (← c.self.view_is, c.sent.ensures)
+    (fits_sent i.conn c.in-Bytes.count (lingers_in i.phase) (g.W.Wire.ended i.wire) _ (g.W.Wire.given i.wire) (g.W.Wire.got i.wire) i.outbox _ _ e.given e.got.2 e.ended)
 
 pub returns-then-is_empty-2-clause-grows : goal.returns-then-is_empty-2-clause-grows
 returns-then-is_empty-2-clause-grows g c =
@@ -18,12 +32,6 @@ returns-then-is_empty-clause-fits g c = fits_as_before _
 
 pub returns-then-is_empty-clause-grows : goal.returns-then-is_empty-clause-grows
 returns-then-is_empty-clause-grows g c = grows_same _
-
-pub returns-then-not-edges-clause-fits : goal.returns-then-not-edges-clause-fits
-returns-then-not-edges-clause-fits g c = fits_as_before _
-
-pub returns-then-not-edges-clause-grows : goal.returns-then-not-edges-clause-grows
-returns-then-not-edges-clause-grows g c = grows_same _
 
 pub returns-in-Nothing-clause-fits : goal.returns-in-Nothing-clause-fits
 returns-in-Nothing-clause-fits g c =

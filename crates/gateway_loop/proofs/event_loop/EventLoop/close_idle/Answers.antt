@@ -2,17 +2,17 @@ use Rattle.gateway_loop.proofs.Words.{◌∙◌}
 use Rattle.gateway_loop.proofs.AskLemmas.{goes_on, goes_then}
 use Rattle.gateway_loop.proofs.event_loop.EventLoop.close_idle.Goals as goal
 
-pub loop-open-preserved : goal.loop-open-preserved
-loop-open-preserved g c = (goes_then _ _ _ c.loop-open.invariant.0 c.leave.ensures.goes, c.leave.ensures.told ∙ c.loop-open.invariant.1)
+pub loop-client-preserved : goal.loop-client-preserved
+loop-client-preserved g c = (goes_then _ _ _ c.loop-client.invariant.0 c.leave.ensures.goes, c.leave.ensures.told ∙ c.loop-client.invariant.1)
 
 pub returns-clause-continues : goal.returns-clause-continues
-returns-clause-continues g c = goes_on _ _ c.loop-open.invariant.0
+returns-clause-continues g c = goes_on _ _ c.loop-client.invariant.0
 
 pub returns-clause-told : goal.returns-clause-told
-returns-clause-told g c = c.loop-open.invariant.1
+returns-clause-told g c = c.loop-client.invariant.1
 
 pub returns-in_default-clause-continues : goal.returns-in_default-clause-continues
-returns-in_default-clause-continues g c = goes_on _ _ c.loop-open.invariant.0
+returns-in_default-clause-continues g c = goes_on _ _ c.loop-client.invariant.0
 
 pub returns-in_default-clause-told : goal.returns-in_default-clause-told
-returns-in_default-clause-told g c = c.loop-open.invariant.1
+returns-in_default-clause-told g c = c.loop-client.invariant.1

@@ -2,6 +2,6 @@ use Rattle.gateway_loop.proofs.Words.{◌≡◌, Goes}
 use Rattle.gateway_loop.proofs.event_loop.EventLoop.close_idle.Given as goal
 
 -- it only went on
-abbrev pub invariant-loop-open : goal.invariant-loop-open
-invariant-loop-open g l =
+abbrev pub invariant-loop-client : goal.invariant-loop-client
+invariant-loop-client g l =
     Goes l.fn.self l.self × (l.self.side.told ≡ l.fn.self.side.told)

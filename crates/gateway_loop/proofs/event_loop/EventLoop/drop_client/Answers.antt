@@ -3,7 +3,8 @@ use Rattle.gateway_loop.proofs.AskLemmas.{goes_then}
 use Rattle.gateway_loop.proofs.event_loop.EventLoop.drop_client.Goals as goal
 
 pub returns-clause-goes : goal.returns-clause-goes
-returns-clause-goes g c = rw (← c.self.view_is) (rw c.self-2.view_is (goes_then _ _ _ c.let_go.ensures.goes c.close.ensures.goes))
+returns-clause-goes g c =
+    rw (← c.self.view_is) (goes_then _ _ _ (rw c.take_exchanges-exchanges.ensures at c.let_go.ensures.goes) c.give_up_all.ensures.goes)
 
 pub returns-clause-told : goal.returns-clause-told
-returns-clause-told g c = rw (c.self-2.view_is, c.close.ensures.told, c.let_go.ensures.told, c.self.view_is) refl
+returns-clause-told g c = rw (c.give_up_all.ensures.told, c.let_go.ensures.told, c.take_exchanges-exchanges.ensures, c.self.view_is) refl

@@ -2,6 +2,6 @@ use Rattle.gateway_loop.proofs.Words.{◌≡◌, Goes}
 use Rattle.gateway_loop.proofs.event_loop.EventLoop.look_at_all.Given as goal
 
 -- it only went on
-abbrev pub invariant-loop-index : goal.invariant-loop-index
-invariant-loop-index g l =
+abbrev pub invariant-loop-place : goal.invariant-loop-place
+invariant-loop-place g l =
     Goes l.fn.self l.self × (l.self.side.told ≡ l.fn.self.side.told)

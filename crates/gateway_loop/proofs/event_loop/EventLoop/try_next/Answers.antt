@@ -4,18 +4,18 @@ use Rattle.gateway_loop.proofs.event_loop.EventLoop.try_next.Goals.{else-loop-ad
 
 pub loop-address-preserved : goal.loop-address-preserved
 loop-address-preserved g c = (
-  goes_then _ _ _ c.loop-address.invariant.0 (rw c.self.view_is at (goes_then _ _ _ c.connect.ensures.goes c.go_over.ensures.goes)),
-  λ u is. rw (c.go_over.ensures.told, c.connect.ensures.told, c.connect.ensures.same, c.self.view_is) (c.loop-address.invariant.1 u is),
+  goes_then _ _ _ c.loop-address.invariant.0 (rw c.self.view_is at (goes_then _ _ _ c.connect.ensures.goes c.step.ensures.goes)),
+  λ u is. rw (c.step.ensures.told, c.connect.ensures.told, c.connect.ensures.same, c.self.view_is) (c.loop-address.invariant.1 u is),
 )
 
 pub returns-in-Ended-clause-goes : goal.returns-in-Ended-clause-goes
-returns-in-Ended-clause-goes g c = goes_then _ _ _ c.loop-address.invariant.0 (rw c.self.view_is at (goes_then _ _ _ c.connect.ensures.goes (goes_then _ _ _ c.go_over.ensures.goes c.end.ensures.goes)))
+returns-in-Ended-clause-goes g c = goes_then _ _ _ c.loop-address.invariant.0 (rw c.self.view_is at (goes_then _ _ _ c.connect.ensures.goes (goes_then _ _ _ c.step.ensures.goes c.end.ensures.goes)))
 
 pub returns-in-Waits-clause-goes : goal.returns-in-Waits-clause-goes
-returns-in-Waits-clause-goes g c = goes_then _ _ _ c.loop-address.invariant.0 (rw c.self.view_is at (goes_then _ _ _ c.connect.ensures.goes (goes_then _ _ _ c.go_over.ensures.goes c.watch.ensures.goes)))
+returns-in-Waits-clause-goes g c = goes_then _ _ _ c.loop-address.invariant.0 (rw c.self.view_is at (goes_then _ _ _ c.connect.ensures.goes (goes_then _ _ _ c.step.ensures.goes c.watch.ensures.goes)))
 
 pub returns-in-More-clause-goes : goal.returns-in-More-clause-goes
-returns-in-More-clause-goes g c = goes_then _ _ _ c.loop-address.invariant.0 (rw c.self.view_is at (goes_then _ _ _ c.connect.ensures.goes (goes_then _ _ _ c.go_over.ensures.goes c.watch-in-More.ensures.goes)))
+returns-in-More-clause-goes g c = goes_then _ _ _ c.loop-address.invariant.0 (rw c.self.view_is at (goes_then _ _ _ c.connect.ensures.goes (goes_then _ _ _ c.step.ensures.goes c.watch-in-More.ensures.goes)))
 
 pub returns-clause-goes : goal.returns-clause-goes
 returns-clause-goes g c = elim c.loop-address-test.branch [

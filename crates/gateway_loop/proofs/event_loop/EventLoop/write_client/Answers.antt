@@ -1,17 +1,11 @@
-use Rattle.gateway_loop.proofs.AskLemmas.{goes_same, goes_then}
+use Rattle.gateway_loop.proofs.AskLemmas.{goes_then}
 use Rattle.gateway_loop.proofs.event_loop.EventLoop.write_client.Goals as goal
 
-pub returns-in_default-clause-goes : goal.returns-in_default-clause-goes
-returns-in_default-clause-goes g c = rw (← c.self.view_is) (goes_same _)
+pub returns-else-is_to_be_read-2-clause-goes : goal.returns-else-is_to_be_read-2-clause-goes
+returns-else-is_to_be_read-2-clause-goes g c = rw (← c.self.view_is) c.write-written.ensures.goes
 
-pub returns-in_default-clause-told : goal.returns-in_default-clause-told
-returns-in_default-clause-told g c = λ u is. rw c.self.view_is is
-
-pub returns-else-is_to_be_read-clause-goes : goal.returns-else-is_to_be_read-clause-goes
-returns-else-is_to_be_read-clause-goes g c = rw (← c.self.view_is) c.write-written.ensures.goes
-
-pub returns-else-is_to_be_read-clause-told : goal.returns-else-is_to_be_read-clause-told
-returns-else-is_to_be_read-clause-told g c = λ u is. rw (c.write-written.ensures.told, c.write-written.ensures.same, c.self.view_is) is
+pub returns-else-is_to_be_read-2-clause-told : goal.returns-else-is_to_be_read-2-clause-told
+returns-else-is_to_be_read-2-clause-told g c = λ u is. rw (c.write-written.ensures.told, c.write-written.ensures.same, c.self.view_is) is
 
 pub returns-then-eq-2-clause-goes : goal.returns-then-eq-2-clause-goes
 returns-then-eq-2-clause-goes g c = rw (← c.self.view_is) (goes_then _ _ _ c.write-written.ensures.goes c.drop_client.ensures.goes)
@@ -31,8 +25,8 @@ returns-then-eq-3-clause-goes g c = rw (← c.self.view_is) (goes_then _ _ _ c.w
 pub returns-then-eq-3-clause-told : goal.returns-then-eq-3-clause-told
 returns-then-eq-3-clause-told g c = λ u is. rw (c.line_up-then-eq-3.ensures.told, c.write-written.ensures.told, c.write-written.ensures.same, c.self.view_is) is
 
-pub returns-then-may_read-clause-goes : goal.returns-then-may_read-clause-goes
-returns-then-may_read-clause-goes g c = c.line_up.ensures.goes
+pub returns-then-is_to_be_read-clause-goes : goal.returns-then-is_to_be_read-clause-goes
+returns-then-is_to_be_read-clause-goes g c = c.line_up.ensures.goes
 
-pub returns-then-may_read-clause-told : goal.returns-then-may_read-clause-told
-returns-then-may_read-clause-told g c = λ u is. rw c.line_up.ensures.told is
+pub returns-then-is_to_be_read-clause-told : goal.returns-then-is_to_be_read-clause-told
+returns-then-is_to_be_read-clause-told g c = λ u is. rw c.line_up.ensures.told is

@@ -1,5 +1,5 @@
 use Rattle.gateway_loop.proofs.Words.{◌≡◌, Goes}
-use Rattle.gateway_loop.proofs.event_loop.EventLoop.give_up_unwanted.Given as goal
+use Rattle.gateway_loop.proofs.event_loop.EventLoop.give_up_each.Given as goal
 
 -- it only went on
 abbrev pub invariant-loop-exchange : goal.invariant-loop-exchange

@@ -1,7 +1,7 @@
 use Rattle.gateway_loop.proofs.Words.{◌∙◌}
 use Rattle.gateway_loop.proofs.AskLemmas.{goes_then}
-use Rattle.gateway_loop.proofs.event_loop.EventLoop.give_up_unwanted.Goals as goal
-use Rattle.gateway_loop.proofs.event_loop.EventLoop.give_up_unwanted.Goals.{then-is_wanted, else-is_wanted}
+use Rattle.gateway_loop.proofs.event_loop.EventLoop.give_up_each.Goals as goal
+use Rattle.gateway_loop.proofs.event_loop.EventLoop.give_up_each.Goals.{then-is_wanted, else-is_wanted}
 
 pub loop-exchange-preserved : goal.loop-exchange-preserved
 loop-exchange-preserved g c = elim c.if-is_wanted.branch [

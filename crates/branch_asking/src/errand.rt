@@ -1,0 +1,72 @@
+ghost use Rattle.std.specs.Prelude.{◌≡◌, ◌↔◌, IsFalse};
+
+use crate::edges::{Edges, Ready};
+use std::mem;
+
+/// What a loop notes of a job that it asks for. No law speaks of it.
+#[derive(Drop)]
+pub struct Errand {
+    /// The place of the client that waits for its answer, if one did as it began.
+    pub client: Option<usize>,
+    /// The moment at which it began.
+    pub began: u64,
+    pub edges: Edges,
+    /// Whether its backend is known to have ended its stream.
+    pub has_ended: bool,
+    /// Until when it goes on, by its timer, if it has one.
+    pub until: Option<u64>,
+    /// Its number among those that wait for its name, if it does.
+    pub waits: Option<usize>,
+    /// Whether it is in the line of those that are to be served.
+    pub is_in_line: bool,
+}
+
+impl Errand {
+    /// Of a job for the client in that place, if there is one, which begins at that moment.
+    pub fn new(client: Option<usize>, began: u64) -> Errand {
+        Errand {
+            client,
+            began,
+            edges: Edges::new(),
+            has_ended: false,
+            until: None,
+            waits: None,
+            is_in_line: false,
+        }
+    }
+
+    /// Something became possible; whether that may be told of another's stream, too, that had the token before.
+    pub fn note_ready(&mut self, ready: Ready, is_shared: bool) {
+        self.edges.note(ready);
+        self.has_ended |= ready.read_closed && !is_shared;
+    }
+
+    /// Whether it is in the line from now on. Answers whether it was.
+    pub fn set_in_line(&mut self, is_in_line: bool) -> bool
+        ensures was { result ≡ self.old.is_in_line }
+        ensures rest { self.new ≡ record self.old { is_in_line = is_in_line } }
+    {
+        mem::replace(&mut self.is_in_line, is_in_line)
+    }
+
+    /// It goes on until then. Answers whether that is new.
+    pub fn set_until(&mut self, until: Option<u64>) -> bool
+        ensures new { IsFalse result ↔ (self.old.until ≡ until) }
+        ensures rest { self.new ≡ record self.old { until = until } }
+    {
+        mem::replace(&mut self.until, until) != until
+    }
+
+    /// It waits for its name under this number, or no more.
+    pub fn set_waits(&mut self, waits: Option<usize>)
+        ensures { self.new ≡ record self.old { waits = waits } }
+    {
+        self.waits = waits;
+    }
+
+    /// Its stream is a new one.
+    pub(crate) fn has_new_stream(&mut self) {
+        self.edges = Edges::new();
+        self.has_ended = false;
+    }
+}
