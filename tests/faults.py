@@ -18,7 +18,7 @@ import program_admin
 import program_places
 import program_room
 from program_room import (
-    DONE, IO, MEMORY, NOT_FOUND, STRAY, Untried, WAIT, Wrong, answers, at_once, call, client, end_of, expect,
+    CASE_TIME, DONE, IO, MEMORY, NOT_FOUND, STRAY, Untried, WAIT, Wrong, answers, at_once, call, client, end_of, expect,
     free_ports, is_reset, listener, plan, read_to, reply, request, sees_end, serve_words, waits_of,
 )
 
@@ -458,6 +458,10 @@ def case_serve_memory(room):
 
         at_once(4, try_some)
         expect("how it ended", set(ends), {MEMORY, DONE})
+
+
+# it starts the program some hundred times
+case_serve_memory.time = 5 * CASE_TIME
 
 
 def case_serve_no_sockets_to_wait_for(room):
