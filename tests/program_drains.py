@@ -5,10 +5,10 @@ import time
 
 from program_admin import DRAINING, HOST, drain, serve
 from program_log import branches_told, told
-from program_loops import reset
+from program_loops import need_descriptors, reset
 from program_room import (
-    Backend, DONE, NOT_FOUND, STRAY, WAIT, answers, call, client, closes, expect, listener, narrow_client, plan,
-    read_message, read_reply, read_slowly, read_to, reply, request, sees_end, stopped,
+    Backend, DONE, NOT_FOUND, STRAY, WAIT, answers, call, client, closes, expect, listener, long_listener,
+    narrow_client, plan, read_message, read_reply, read_slowly, read_to, reply, request, sees_end, stopped,
 )
 
 # a reply that does not go out unless its client reads
@@ -74,6 +74,33 @@ def case_drain_of_what_came_before(room):
                 expect("what is no call", read_reply(stream)[0], "404")
                 expect("the second call", read_reply(stream), ("200", b'{"b0":1}'))
                 sees_end("behind them", stream)
+        room.ends("the program", run, DONE)
+
+
+def case_drain_beside_800_answers(room):
+    """a drain answers what came before it on idle connections, though 800 backends answer at the same moment"""
+    need_descriptors(4_096)
+    with long_listener() as backend, contextlib.ExitStack() as opened:
+        run, port, where = serve(room, plan([backend.getsockname()[1]] * 16, 16), "--grace", "60")
+        busy = [opened.enter_context(client(port)) for _ in range(50)]
+        idle = [opened.enter_context(client(port)) for _ in range(14)]
+        for stream in idle:
+            answers("before the drain", stream)
+        for stream in busy:
+            call(stream)
+        asked = [opened.enter_context(backend.accept()[0]) for _ in range(800)]
+        with stopped(run):
+            for one in asked:
+                one.sendall(reply("1"))
+            for stream in idle:
+                stream.sendall(STRAY)
+            opened.enter_context(ask_for_a_drain(where))
+        for stream in idle:
+            expect("what came before the drain", read_to(stream, len(NOT_FOUND)), NOT_FOUND)
+            sees_end("behind it", stream)
+        for stream in busy:
+            expect("the call", read_reply(stream)[0], "200")
+            stream.close()
         room.ends("the program", run, DONE)
 
 

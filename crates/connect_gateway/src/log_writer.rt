@@ -19,8 +19,7 @@ const PAUSE: u64 = 10_000;
 /// So many lines are written at once at most.
 const TOGETHER: u32 = 64;
 
-/// Behind so many bytes no further line is written with them: a pipe takes 4,096 at once, so that the lines of two
-/// programs stay whole.
+/// Behind so many bytes no further line is written with them.
 const MOST_BYTES: usize = 3_500;
 
 /// So long it lets lines gather once none waits, in milliseconds: whoever hands one in then need not wake it.

@@ -126,7 +126,7 @@ impl<M: NetHost> Looping<M> {
         for _ in rt.forever() {
             let next = self.next_turn();
             match self.network.wait(next, &mut self.comings.ready) {
-                Ok(()) => failures = 0,
+                Ok(_) => failures = 0,
                 Err(_) if failures >= MOST_FAILURES => return false,
                 Err(_) => {
                     failures = failures.saturating_add(1);
@@ -157,12 +157,12 @@ impl<M: NetHost> Looping<M> {
             self.has_ended_calls = true;
             self.event_loop.drain();
         }
-        // what came meanwhile is read first
+        // what came meanwhile is read first, and all of it
         let waited = self.network.wait(NextTurn::AtOnce, &mut self.comings.ready);
-        self.has_idle = waited.is_err();
+        self.has_idle = !matches!(waited, Ok(false));
         if waited.is_ok() {
             self.event_loop.turn(&mut self.network, &mut self.comings);
-            if self.event_loop.next_turn() != NextTurn::AtOnce {
+            if !self.has_idle && self.event_loop.next_turn() != NextTurn::AtOnce {
                 self.event_loop.close_idle();
             }
         }
@@ -253,21 +253,23 @@ impl<M: Host> MioNetwork<M> {
         })
     }
 
-    /// Waits until the next turn is due or the loop is woken, and tells what is ready. It does not wait, where nothing
-    /// of that can be told.
-    pub(crate) fn wait(&mut self, next: NextTurn, ready: &mut Vec<Ready>) -> io::Result<()> {
+    /// Waits until the next turn is due or the loop is woken, and tells what is ready. Answers whether more may be ready
+    /// than one wait brings. It does not wait, where nothing of that can be told.
+    pub(crate) fn wait(&mut self, next: NextTurn, ready: &mut Vec<Ready>) -> io::Result<bool> {
         ready.clear();
         // the system tells each of them once
         ready.reserve(MOST_EVENTS)?;
         let timeout = self.time_to(next);
         self.poll.poll(&mut self.events, timeout)?;
+        let mut count = 0usize;
         for event in &self.events {
+            count = count.saturating_add(1);
             if event.token() != WAKER {
                 // there is room
                 let _ = ready.push(ready_of(event));
             }
         }
-        Ok(())
+        Ok(count >= MOST_EVENTS)
     }
 
     /// How long it is until then; None where nothing is due.
