@@ -3,7 +3,7 @@
 
 It answers any POST of JSON with a JSON object that names the path asked for and its own port, and has the body in it
 as it came. With --delay it waits so many milliseconds first; with --fail it answers that status and a message. With
---chunked its replies are sent in chunks, as no backend of the gateway may send them.
+--chunked its replies are sent in chunks, which the gateway takes with `serve --chunked` alone.
 """
 
 import argparse

@@ -1,5 +1,6 @@
-# Varnish between a gateway and a backend that answers in chunks, or ends its replies with the connection: it keeps a
-# reply until it is whole, and states its length. A plan names varnish's address, and varnish the backend's.
+# Varnish between a gateway and a backend that ends its replies with the connection, or answers in chunks to a gateway
+# without --chunked: it keeps a reply until it is whole, and states its length. A plan names varnish's address, and
+# varnish the backend's.
 # varnishd -F -n /tmp/connect_gateway_varnish -a 127.0.0.1:9011 -f examples/backends.vcl (by its whole path)
 vcl 4.1;
 

@@ -4,10 +4,11 @@
 Each of the clients has a connection of its own, which it uses as long as it is let, and makes one call after the other;
 after one that failed it waits for half a second.
 Each call has a body of its own, and its answer must have that body in it, as examples/backend.py answers. With --chunked
-the bodies are sent in chunks. With --at a command is run once a quarter of the calls have been answered. With --until a
-call that began before that command had ended may fail; its value says which moment that is. It prints the counts of
-statuses, of connections that ended without an answer, of wrong answers, how many of those that failed may fail, and how
-long it took. Its status is 0 where each other call was answered with 200, and right.
+the bodies are sent in chunks. With --at a command is run once a quarter of the calls have been answered; the clients go
+on until it has ended, and each makes five calls more then. With --until a call that began before that command had ended
+may fail; its value says which moment that is. It prints the counts of statuses, of connections that ended without an
+answer, of wrong answers, how many of those that failed may fail, and how long it took. Its status is 0 where each other
+call was answered with 200, and right.
 """
 
 import argparse
@@ -42,6 +43,12 @@ class Outcomes:
                 raise SystemExit(f"many_calls: failed: {self.options.at}")
             self.command_ended = time.monotonic()
 
+    def goes_on(self, calls, since):
+        """Whether a client makes one more call that has made so many, and `since` of them once the command had ended."""
+        if self.options.at and (self.command_ended is None or since < 5):
+            return True
+        return calls < self.options.calls // self.options.clients
+
     def may_fail(self):
         """How many of those that failed may fail."""
         return sum(began < self.command_ended for began in self.failed) if self.options.until else 0
@@ -52,7 +59,7 @@ class Outcomes:
             f" ({self.may_fail()} of these began before {self.options.until})" if self.failed and self.options.until else "")
 
     def are_right(self):
-        return self.counts[200] + self.may_fail() == self.counts.total() == self.options.calls
+        return self.counts[200] + self.may_fail() == self.counts.total() >= self.options.calls
 
 
 async def read_reply(reader):
@@ -83,9 +90,11 @@ def request(options, client, call):
 
 
 async def run_client(options, client, outcomes):
-    stream = None
-    for call in range(options.calls // options.clients):
+    stream, call, since = None, 0, 0
+    while outcomes.goes_on(call, since):
         sent, wanted = request(options, client, call)
+        call += 1
+        since += outcomes.command_ended is not None
         began = time.monotonic()
         try:
             if not stream:

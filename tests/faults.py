@@ -26,6 +26,10 @@ HERE = os.path.dirname(os.path.abspath(__file__))
 
 ANSWER = reply('{"b0":1}')
 
+# what a backend answers, with a length and in chunks
+STATED = reply("1")
+CHUNKED = STATED.split(b"Content-Length")[0] + b"Transfer-Encoding: chunked\r\n\r\n01;a\r\n1\r\n0\r\nX: y\r\n\r\n"
+
 
 @contextlib.contextmanager
 def faults():
@@ -143,7 +147,8 @@ def ask(stream):
 class Backend:
     """Answers each call over a stream of its own, until it is left."""
 
-    def __init__(self):
+    def __init__(self, answer=STATED):
+        self.answer = answer
         self.listens = listener()
         self.port = self.listens.getsockname()[1]
         self.pid = 0
@@ -165,7 +170,7 @@ class Backend:
                 stream.settimeout(5)
                 if read_to(stream, 4) == b"POST":
                     stream.recv(65536)
-                    stream.sendall(reply("1"))
+                    stream.sendall(self.answer)
 
     def __exit__(self, *_):
         os.kill(self.pid, signal.SIGKILL)
@@ -182,14 +187,14 @@ def ask_three(port, pause=0.0):
     return found
 
 
-def serve_each(room, what, how, judge, first=1, name=b"127.0.0.1", pause=0.0):
+def serve_each(room, what, how, judge, first=1, name=b"127.0.0.1", pause=0.0, answer=STATED, words=()):
     """Serves three streams, one after another with pauses, with each such call failing. JUDGE looks at what came back for
     their calls. The gateway then ends by itself."""
-    with Backend() as backend:
+    with Backend(answer) as backend:
         plans = plan([backend.port], 1, timeout=5000).replace(b"127.0.0.1", name)
 
         def run(env, files):
-            started, port = room.serve(plans, streams=3, variables=env, pass_fds=files)
+            started, port = room.serve(plans, streams=3, words=words, variables=env, pass_fds=files)
             return ask_three(port, pause), end_of(started)[0]
 
         each(what, how, run, judge, first)
@@ -240,6 +245,12 @@ def case_serve_fails(room):
     for how in ("failed", "reset"):
         for what in ("receive", "send", "connect"):
             serve_each(room, what, how, judge_apart)
+
+
+def case_serve_chunks(room):
+    """serve --chunked: each read short changes nothing, and each that fails concerns one stream, where replies are in chunks"""
+    for how, judge in (("short", all_answered), ("failed", judge_apart), ("reset", judge_apart)):
+        serve_each(room, "receive", how, judge, answer=CHUNKED, words=["--chunked"])
 
 
 def case_serve_no_port(room):
@@ -431,18 +442,18 @@ def ask_while_it_serves(run, port):
     return found
 
 
-def case_serve_memory(room):
-    """serve: memory that is refused at the start ends the program, and later concerns one stream"""
-    with Backend() as backend:
+def refuse_memory(room, first, answer=STATED, words=()):
+    """Serves three streams with each allocation refused from that one on. Returns how the program ended, by its number."""
+    with Backend(answer) as backend:
         file = room.file("plans", plan([backend.port], 1, timeout=5000))
-        ends, ports = [], free_ports(4)
+        ends, ports = {}, free_ports(4)
 
         def run(port, env, files):
-            started = room.start(serve_words(port, file, streams=3), variables=env, pass_fds=files)
+            started = room.start([*serve_words(port, file, streams=3), *words], variables=env, pass_fds=files)
             return ask_while_it_serves(started, port), end_of(started)[0]
 
         def judge(name, met, found, end):
-            ends.append(end)
+            ends[int(name.split()[1])] = end
             if end == MEMORY:
                 # who connected before the loops were there is reset
                 answered = [one for one in found if one.removesuffix(b" (reset)")]
@@ -450,14 +461,24 @@ def case_serve_memory(room):
             else:
                 judge_cut(name, met, found, end)
 
-        def try_some(first):
-            for number in range(first + 1, 2_000, 4):
-                if not try_one("allocate", number, "refused", lambda *how: run(ports[first], *how), judge):
+        def try_some(offset):
+            for number in range(first + offset, 2_000, 4):
+                if not try_one("allocate", number, "refused", lambda *how: run(ports[offset], *how), judge):
                     return
             raise Wrong("more than 2,000 allocations")
 
         at_once(4, try_some)
-        expect("how it ended", set(ends), {MEMORY, DONE})
+        return ends
+
+
+def case_serve_memory(room):
+    """serve: memory that is refused at the start ends the program, and later concerns one stream, also with --chunked"""
+    ends = refuse_memory(room, 1)
+    expect("how it ended", set(ends.values()), {MEMORY, DONE})
+    # the start is the same then
+    later = min(number for number, end in ends.items() if end == DONE)
+    found = set(refuse_memory(room, later, CHUNKED, ["--chunked"]).values())
+    expect("how it ended then", found - {MEMORY}, {DONE})
 
 
 # it starts the program some hundred times

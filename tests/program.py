@@ -13,6 +13,7 @@ import traceback
 
 import program_admin
 import program_backends
+import program_chunked
 import program_container
 import program_drains
 import program_ends
@@ -20,15 +21,18 @@ import program_figures
 import program_log
 import program_loops
 import program_names
+import program_passed
 import program_places
 import program_serve
+import program_servers
 import program_turns
 import program_waits
 from program_room import CASE_TIME, Room, Untried, Wrong
 
 MODULES = [
-    program_admin, program_drains, program_figures, program_backends, program_container, program_ends, program_serve,
-    program_places, program_loops, program_turns, program_names, program_waits, program_log,
+    program_admin, program_drains, program_figures, program_backends, program_servers, program_container, program_ends,
+    program_serve, program_places, program_loops, program_passed, program_chunked, program_turns, program_names,
+    program_waits, program_log,
 ]
 
 

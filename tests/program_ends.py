@@ -26,6 +26,7 @@ def case_words(room):
     refused = [[], ["jump"], ["--help"], ["replay", "x"], ["replay", "--help"], serve[:-2], serve[:3] + serve[5:]]
     refused += [[*serve[:-1], workers] for workers in ("0", "65", "4294967297", "x")]
     refused += [[*serve, "--connections", streams] for streams in ("0", "1000001", "x")]
+    refused += [[*serve, "--chunked", "yes"], [*serve, "--chunked", "--chunked"], ["replay", "--chunked"]]
     for words in refused:
         room.ends(f"of {words}", room.start(words), WORDS)
     room.ends("of a word that is no UTF-8", room.start([b"replay", b"\xff"]), WORDS)

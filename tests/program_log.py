@@ -372,6 +372,27 @@ def case_log_of_the_end(room):
     expect("the status", run.returncode, 0)
 
 
+def ask_with_long_ids(port):
+    """Makes ninety requests on a connection, whose ids have 1 to 90 bytes."""
+    with client(port) as stream:
+        for length in range(1, 91):
+            stream.sendall(STRAY[:-2] + b"X-Request-Id: " + b"i" * length + b"\r\n\r\n")
+        expect("the replies", read_to(stream, 90 * len(NOT_FOUND)), NOT_FOUND * 90)
+
+
+def case_log_of_two_programs(room):
+    """lines of two programs that share a pipe stand each by itself"""
+    reader, writer = os.pipe()
+    with open(reader, "rb") as lines, concurrent.futures.ThreadPoolExecutor(31) as pool:
+        all_lines = pool.submit(lines.read)
+        with open(writer, "wb"):
+            ports = [room.serve(b"[]", workers=2, streams=15, log=True, stderr=writer)[1] for _ in range(2)]
+        for asking in [pool.submit(ask_with_long_ids, port) for port in ports for _ in range(15)]:
+            asking.result()
+        replies, _ = told(all_lines.result())
+    expect("how many replies are told", len(replies), 2 * 15 * 90)
+
+
 def remarks(lines):
     """What the lines of a log say beside replies: each fault, warning and address, by its kind."""
     return [(kind, line[kind]) for line in lines for kind in ("fault", "warning", "listen") if kind in line]

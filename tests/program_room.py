@@ -86,11 +86,11 @@ class Room:
             given.seek(0)
             self.ends(what, self.start(["replay"], stdin=given, **how), wanted, printed)
 
-    def serve(self, plans, workers=1, streams=None, log=False, **how):
-        """Starts the gateway, and returns its run and the port that it will listen at."""
+    def serve(self, plans, workers=1, streams=None, log=False, words=(), **how):
+        """Starts the gateway, with further words if any, and returns its run and the port that it will listen at."""
         port = free_port()
-        words = serve_words(port, self.file("plans", plans), workers, streams)
-        return self.start(words + (["--log"] if log else []), **how), port
+        given = serve_words(port, self.file("plans", plans), workers, streams)
+        return self.start([*given, *(["--log"] if log else []), *words], **how), port
 
     def end_all(self):
         for run in self.started:

@@ -507,6 +507,57 @@ def case_many_large_replies(room):
     room.ends("the program", run, DONE)
 
 
+class Counted(Backend):
+    """A backend that counts its answers, each once it was read."""
+
+    def __init__(self, body):
+        self.answers = 0
+        super().__init__(body)
+
+    def answer_on(self, stream):
+        with contextlib.suppress(OSError), stream:
+            stream.recv(65536)
+            stream.sendall(self.answer)
+            stream.shutdown(socket.SHUT_WR)
+            stream.recv(1)
+        self.answers += 1
+
+    def has_answered(self, count):
+        """Waits for so many answers."""
+        end = time.monotonic() + WAIT
+        while self.answers < count:
+            if time.monotonic() > end:
+                raise Wrong(f"{self.answers} answers, expected {count}")
+            time.sleep(0.01)
+
+
+def case_held_once(room):
+    """forty replies of 1 MB that wait behind a slow call take little more than their size"""
+    with Counted(json.dumps("x" * 65_000)) as backend, listener() as silent:
+        slow = json.loads(plan([silent.getsockname()[1]], 1))[0]
+        wide = json.loads(plan([backend.port] * 16, 16))[0]
+        run, port = room.serve(json.dumps([{**slow, "path": "/slow"}, wide]).encode(), streams=1)
+        with client(port) as stream:
+            call(stream, path="/slow")
+            held = silent.accept()[0]
+            before = size_of(run, "VmRSS")
+            for number in range(40):
+                # more than eight undecided calls would be refused
+                backend.has_answered(16 * (number - 3))
+                call(stream)
+            backend.has_answered(640)
+            time.sleep(0.5)
+            grown = size_of(run, "VmRSS") - before
+            with held:
+                read_message(held)
+                held.sendall(reply("1"))
+            for wanted in [8] + [1_040_135] * 40:
+                status, answer = read_reply(stream)
+                expect("a reply", (status, len(answer)), ("200", wanted))
+            expect(f"whether each was held once, {grown} bytes", grown < 60_000_000, True)
+    room.ends("the program", run, DONE)
+
+
 LONG_HEAD = b"POST /call HTTP/1.1\r\nHost: g\r\nContent-Type: application/json\r\nContent-Length: 5000000\r\n\r\n"
 
 

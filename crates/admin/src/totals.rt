@@ -15,7 +15,7 @@ pub const MOST_MILLISECONDS: [u64; 13] = [
 pub(crate) const ENDINGS: usize = 9;
 
 /// So many causes there are that end the asking of a backend; `NeverAsked` is none of them.
-pub(crate) const CAUSES: usize = 23;
+pub(crate) const CAUSES: usize = 24;
 
 /// What came of the replies to the calls of one plan, or to those that are no call.
 #[derive(Clone, Copy, PartialEq, Eq, Debug)]
@@ -83,12 +83,13 @@ pub(crate) const ALL_CAUSES: [Cause; CAUSES] = [
     Cause::NoMemory,
     Cause::NoPort,
     Cause::NoByte,
+    Cause::BadChunk,
 ];
 
 /// The place of the cause among those that are counted: there it is told again. None of a branch that was never asked,
 /// which is not counted.
 pub(crate) fn place_of_cause(cause: Cause) -> Option<usize>
-    ensures within { IfSome result (λ place. place < 23) }
+    ensures within { IfSome result (λ place. place < 24) }
     ensures its { IfSome result (λ place. slice_index_or ALL_CAUSES place Failed ≡ cause) }
     ensures asked { (result ≡ Nothing) ↔ (cause ≡ NeverAsked) }
 {
@@ -117,6 +118,7 @@ pub(crate) fn place_of_cause(cause: Cause) -> Option<usize>
         Cause::NoMemory => 20,
         Cause::NoPort => 21,
         Cause::NoByte => 22,
+        Cause::BadChunk => 23,
     };
     Some(place)
 }

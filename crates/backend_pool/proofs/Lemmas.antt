@@ -22,9 +22,12 @@ pub use Rattle.backend_pool.specs.Work.{Told, WorksAt, NextTells, RecordTells, I
 pub use Rattle.std.specs.Io.KnownBytes.{Appends, Consumes}
 pub use Rattle.std.proofs.KnownBytes.{Appends-nil, Appends-trans, Consumes-trans}
 use Rattle.std.proofs.lemmas.List.{nil_from_length, take-append-drop}
-pub use Rattle.http_pieces.specs.ReplyReader.{HasReadReply, ReplyReaderValue}
+pub use Rattle.http_pieces.specs.ReplyReader.{ReplyReaderValue}
+use Rattle.http_pieces.specs.declared.framing.Framing.TheVariants as framing
 use Rattle.http_pieces.specs.declared.reply.HttpReply.{HttpReply}
 use Rattle.branch_exchange.specs.Exchange.{BeginsWithReply, ComesTo}
+pub use Rattle.branch_exchange.specs.Exchange.{IsReading}
+use Rattle.branch_exchange.specs.declared.exchange_end.ExchangeEnd.TheVariants as ends
 use Rattle.branch_exchange.specs.Outcomes.{asked_of}
 use Rattle.branch_exchange.specs.declared.exchange_end.ExchangeEnd.{ExchangeEnd}
 use Rattle.branch_exchange.specs.declared.asked.Asked.TheVariants as asked
@@ -144,5 +147,9 @@ sends_more u v w all left n s more = (s.0 ++ take n left, grind (arith, common_s
 
 -- where a reply is told, what was read begins with it
 pub reply_begins : (left bytes : List ℕ) (reader : ReplyReaderValue) (end : ExchangeEnd) (reply : HttpReply)
-    → ComesTo left reader bytes (Some end) → asked_of end ≡ asked.Reply reply → BeginsWithReply bytes reply
-reply_begins left bytes reader end reply comes is = grind (arith, common_steps)
+    → ComesTo framing.Fixed left reader bytes (Some end) → asked_of end ≡ asked.Reply reply → BeginsWithReply framing.Fixed bytes reply
+reply_begins left bytes reader (ends.Reply told) reply comes is =
+    let same : told ≡ reply = cc in
+    subst (λ (q : HttpReply). BeginsWithReply framing.Fixed bytes q) same comes.0
+reply_begins left bytes reader (ends.Lost loss) reply comes is = absurd (cc)
+reply_begins left bytes reader ends.NoMemory reply comes is = absurd (cc)

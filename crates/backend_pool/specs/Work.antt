@@ -6,6 +6,7 @@ use Rattle.http_pieces.specs.declared.reply.HttpReply.{HttpReply}
 use Rattle.connect_codec.specs.declared.answer.Outcome.{Outcome}
 use Rattle.gateway_theory.specs.Task.{HandedJob}
 use Rattle.branch_exchange.specs.Exchange.{BeginsWithReply}
+use Rattle.http_pieces.specs.declared.framing.Framing.TheVariants as framing
 use Rattle.branch_exchange.specs.Outcomes.{outcome_of_asked}
 use Rattle.branch_exchange.specs.declared.asked.Asked.{Asked}
 use Rattle.branch_exchange.specs.declared.asked.Asked.TheVariants.{Lost}
@@ -88,4 +89,4 @@ SendsOn old new left rest = (sent : List ℕ) × Appends old new sent × (left �
 
 -- bytes were read that begin with this reply
 abbrev pub ReadsReply : Option (List ℕ) → Option (List ℕ) → HttpReply → Type 0
-ReadsReply old new reply = (bytes : List ℕ) × Consumes old new bytes × BeginsWithReply bytes reply
+ReadsReply old new reply = (bytes : List ℕ) × Consumes old new bytes × BeginsWithReply framing.Fixed bytes reply

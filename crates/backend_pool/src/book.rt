@@ -23,13 +23,12 @@ use crate::next_reply::NextReply;
 use call_plan::Plans;
 use connect_codec::Outcome;
 use gateway_core::{
-    CallId, ConnId, Core, Job, OpenError, ReplyHook, StepFault, Stock, Tally, Took,
+    CallId, ConnId, Core, Job, OpenError, ReplyHook, StepFault, Stock, Tally, Took, deliver,
 };
 use gateway_theory::served_laws::{calls_law, known_law};
 use std::alloc::{AllocError, Global};
 use std::marker::Model;
 use std::sync::ledger::{Ledger, Share};
-use whole_pieces::deliver;
 
 /// The core with its totals: of the bytes that came, the jobs that were taken, and the results.
 ///

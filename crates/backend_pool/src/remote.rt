@@ -1,15 +1,16 @@
 ghost use Rattle.backend_pool.specs.Work.{ReadsReply, SendsOn};
 ghost use Rattle.branch_exchange.specs.declared.asked.Asked.{Asked};
-ghost use Rattle.http_pieces.specs.ReplyReader.{HasReadReply};
+ghost use Rattle.branch_exchange.specs.Exchange.{IsReading};
+ghost use Rattle.http_pieces.specs.declared.framing.Framing.TheVariants as framings;
 ghost use Rattle.http_pieces.specs.declared.reply.HttpReply.{HttpReply};
 ghost use Rattle.std.specs.Io.KnownBytes.{Appends};
 ghost use Rattle.std.specs.Prelude.{◌≡◌, [], None, true};
 
 use crate::working::Backend;
 use branch_exchange::{Asked, Exchange, MOST_READS};
-use connect_codec::{BranchAsk, branch_request};
+use connect_codec::{BranchAsk, passing_request};
 use gateway_core::Job;
-use http_pieces::Bytes;
+use http_pieces::{Bytes, Framing};
 use std::alloc::Global;
 use std::cell::RefCell;
 use std::io::{self, ErrorKind, Read, Write};
@@ -52,7 +53,7 @@ impl Backend for RemoteBackend {
             request_id: job.request_id(),
             body: job.body(),
         };
-        let Ok(request) = branch_request(self.alloc, &ask) else {
+        let Ok(request) = passing_request(self.alloc, &ask, &job.passed()) else {
             return Asked::NoMemory;
         };
         let until = self.until(job.deadline());
@@ -210,7 +211,7 @@ pub fn exchange<R: Read, W: Write>(
     let Ok(request) = Bytes::from_slice(alloc, request) else {
         return Asked::NoMemory;
     };
-    let mut exchange = Exchange::new(alloc, request);
+    let mut exchange = Exchange::new(alloc, Framing::Fixed, request);
     if !send(writer, &mut exchange) {
         return Asked::Lost;
     }
@@ -219,7 +220,7 @@ pub fn exchange<R: Read, W: Write>(
 
 /// Reads until the reply is whole, or the exchange ends without one.
 fn receive<R: Read>(reader: &mut R, exchange: &mut Exchange) -> Asked
-    requires { HasReadReply exchange.old.replies [] None }
+    requires { IsReading framings.Fixed exchange.old.replies [] }
     ensures { (reply : HttpReply) → result ≡ Asked.Reply reply
         → ReadsReply (R.remaining reader.old) (R.remaining reader.new) reply }
 {

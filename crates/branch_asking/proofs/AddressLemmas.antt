@@ -1,53 +1,131 @@
--- Which addresses are a job's.
-use Rattle.branch_asking.proofs.Words.{◌≡◌, ℕ, Bool, true, false, List, [], ◌∷◌, ◌++◌, Option, None, Some, sym, subst, inl, inr, ⊎_elim, arith, option_to_list, Contains, SocketAddr, Contains-append_cases, Contains-append_left, Contains-append_right, Contains-push_cases, IsAddressOf, AddressesValue, AreOf, HasParsed, addresses_value, next_of}
-use Rattle.std.proofs.lemmas.Bool.Decides.{nat_tests}
+-- Which addresses are a job's, and in what order it goes over them.
+use Rattle.branch_asking.proofs.Words.{◌≡◌, ℕ, Bool, true, false, List, [], ◌∷◌, ◌++◌, map, Option, None, Some, refl, sym, ap, ◌∙◌, subst, append-nil, map-append, inl, inr, ⊎_elim, option_to_list, SocketAddr, StreamValue, AreAddressesOf, AddressesValue, AreOf, HasParsed, HadStream, AttemptValue, IsPrefixOf, addresses_value, next_of, once_found, once_spelt, peers_of}
+use Rattle.std.proofs.Common.{append_assoc}
+use Rattle.std.specs.Prelude.{if◌then◌else◌}
 use Rattle.std.specs.Net.Grammar.{IsSocketText}
 
-none_contains : (a : SocketAddr) → Contains [] a → ⊥
-none_contains a c = let lt = c.1 in omega (arith, lt)
+-- the same addresses, and more of them were tried
+same_are : (text : List ℕ) (tried later : List SocketAddr) (x y : AddressesValue) → later ++ next_of y ≡ tried ++ next_of x → y.found ≡ x.found → y.known ≡ x.known
+    → AreOf text tried x → AreOf text later y
+same_are text tried later x y all found known are = record {
+  in_order = ⊎_elim
+      (λ (own : (a : SocketAddr) × IsSocketText text a × (tried ++ next_of x ≡ a ∷ [])). inl (own.0, own.1, all ∙ own.2))
+      (λ (is : tried ++ next_of x ≡ x.found). inr (all ∙ is ∙ sym found))
+      are.in_order;
+  none = λ off. all ∙ are.none (sym known ∙ off);
+}
 
 -- none yet
-pub new_are : (text : List ℕ) → AreOf text (addresses_value None [] [])
-new_are text a c = absurd (none_contains a c)
+pub new_are : (text : List ℕ) (tried : List SocketAddr) → tried ≡ [] → AreOf text tried (addresses_value None [] false [])
+new_are text tried none = record {
+  in_order = inr (ap (λ (l : List SocketAddr). l ++ []) none);
+  none = λ off. ap (λ (l : List SocketAddr). l ++ []) none;
+}
 
 -- one was taken
-pub taken_are : (text : List ℕ) (x y : AddressesValue) (o : Option SocketAddr) → next_of x ≡ option_to_list o ++ next_of y → y.found ≡ x.found → AreOf text x → AreOf text y
-taken_are text x y o next same are a c =
-    subst (λ (found : List SocketAddr). IsAddressOf text found a) (sym same)
-    (are a (subst (λ (l : List SocketAddr). Contains l a) (sym next) (Contains-append_right (option_to_list o) (next_of y) a c)))
+pub taken_are : (text : List ℕ) (tried later : List SocketAddr) (x y : AddressesValue) (a : SocketAddr) → next_of x ≡ a ∷ next_of y → y.found ≡ x.found → y.known ≡ x.known
+    → later ≡ tried ++ a ∷ [] → AreOf text tried x → AreOf text later y
+taken_are text tried later x y a next found known is are =
+    same_are text tried later x y
+    (ap (λ (l : List SocketAddr). l ++ next_of y) is ∙ append_assoc tried (a ∷ []) (next_of y) ∙ ap (λ (l : List SocketAddr). tried ++ l) (sym next))
+    found known are
 
-pub taken_is : (text : List ℕ) (x y : AddressesValue) (a : SocketAddr) → next_of x ≡ a ∷ next_of y → y.found ≡ x.found → AreOf text x → IsAddressOf text y.found a
-taken_is text x y a next same are = search arith
+-- others were tried in the same order
+pub tried_are : (text : List ℕ) (tried later : List SocketAddr) (x : AddressesValue) → later ≡ tried → AreOf text tried x → AreOf text later x
+tried_are text tried later x is are = subst (λ (l : List SocketAddr). AreOf text l x) (sym is) are
 
--- the text was that of an address
-pub parsed_are : (text : List ℕ) (x y : AddressesValue) (a : SocketAddr) → IsSocketText text a → y ≡ addresses_value (Some a) x.others x.found → AreOf text x → AreOf text y
-parsed_are text x y a spells is are = subst (λ (v : AddressesValue). AreOf text v) (sym is) all
+-- ---- where none were known
+
+no_first : (a : SocketAddr) (rest : List SocketAddr) → a ∷ rest ≡ [] → ⊥
+no_first a rest e = cc
+
+on_off : true ≡ false → ⊥
+on_off e = cc
+
+none_left : (xs ys zs : List SocketAddr) → xs ++ (ys ++ zs) ≡ [] → (xs ≡ []) × (ys ≡ []) × (zs ≡ [])
+none_left [] [] [] e = (refl, refl, refl)
+none_left [] [] (z ∷ zs) e = absurd (no_first z zs e)
+none_left [] (y ∷ ys) zs e = absurd (no_first y (ys ++ zs) e)
+none_left (x ∷ xs) ys zs e = absurd (no_first x (xs ++ (ys ++ zs)) e)
+
+none_found : (text : List ℕ) (tried : List SocketAddr) (x : AddressesValue) → tried ++ next_of x ≡ [] → AreAddressesOf text x.found (tried ++ next_of x) → x.found ≡ []
+none_found text tried x none all =
+    ⊎_elim
+    (λ (own : (a : SocketAddr) × IsSocketText text a × (tried ++ next_of x ≡ a ∷ [])). absurd (no_first own.0 [] (sym own.2 ∙ none)))
+    (λ (is : tried ++ next_of x ≡ x.found). sym is ∙ none)
+    all
+
+module _ (text : List ℕ) (tried : List SocketAddr) (x : AddressesValue) (are : AreOf text tried x) where
+  -- these were found
+  pub found_are : (y : AddressesValue) (more : List SocketAddr) → y ≡ once_found more x → AreOf text tried y
+  found_are y more is = subst (λ (v : AddressesValue). AreOf text tried v) (sym is) (by_it x.known refl)
+    where
+      by_it : (b : Bool) → x.known ≡ b → AreOf text tried (if b then x else addresses_value x.first more true more)
+      by_it true on = are
+      by_it false off =
+          let left = none_left tried (option_to_list x.first) x.others (are.none off) in
+          record {
+            in_order = inr (ap (λ (l : List SocketAddr). l ++ (option_to_list x.first ++ more)) left.0 ∙ ap (λ (l : List SocketAddr). l ++ more) left.1);
+            none = λ e. absurd (on_off e);
+          }
+
+  -- the text was that of an address
+  pub spelt_are : (y : AddressesValue) (a : SocketAddr) → IsSocketText text a → y ≡ once_spelt a x → AreOf text tried y
+  spelt_are y a spells is = subst (λ (v : AddressesValue). AreOf text tried v) (sym is) (by_it x.known refl)
+    where
+      by_it : (b : Bool) → x.known ≡ b → AreOf text tried (if b then x else addresses_value (Some a) x.others true x.found)
+      by_it true on = are
+      by_it false off =
+          let left = none_left tried (option_to_list x.first) x.others (are.none off) in
+          record {
+            in_order = inl (a, spells, ap (λ (l : List SocketAddr). l ++ (a ∷ x.others)) left.0 ∙ ap (λ (l : List SocketAddr). a ∷ l) left.2);
+            none = λ e. absurd (on_off e);
+          }
+
+  -- .. or none
+  pub parsed_are : (own : List ℕ) (b : Bool) (y : AddressesValue) → own ≡ text → HasParsed own b x y → AreOf text tried y
+  parsed_are own true y same p = spelt_are y p.0 (subst (λ (t : List ℕ). IsSocketText t p.0) same p.1) p.2
+  parsed_are own false y same p = subst (λ (v : AddressesValue). AreOf text tried v) (sym p.1) are
+
+-- what was found is not changed by a text
+pub parsed_found : (own : List ℕ) (b : Bool) (x y : AddressesValue) → HasParsed own b x y → y.found ≡ x.found
+parsed_found own true x y p = ap (λ (v : AddressesValue). v.found) p.2 ∙ by_it x.known
   where
-    all : AreOf text (addresses_value (Some a) x.others x.found)
-    all b c =
-        ⊎_elim
-        (λ (own : Contains (a ∷ []) b). ⊎_elim (λ (none : Contains [] b). absurd (none_contains b none)) (λ (same : a ≡ b). inl (subst (λ (t : SocketAddr). IsSocketText text t) same spells)) (Contains-push_cases [] a b own))
-        (λ (other : Contains x.others b). are b (Contains-append_right (option_to_list x.first) x.others b other))
-        (Contains-append_cases (a ∷ []) x.others b c)
+    by_it : (b : Bool) → (if b then x else addresses_value (Some p.0) x.others true x.found).found ≡ x.found
+    by_it true = refl
+    by_it false = refl
+parsed_found own false x y p = ap (λ (v : AddressesValue). v.found) p.1
 
--- more are found
-pub more_of : (text : List ℕ) (found more : List SocketAddr) (a : SocketAddr) → IsAddressOf text found a → IsAddressOf text (found ++ more) a
-more_of text found more a is = grind (arith, nat_tests, Contains-append_left)
-
-pub found_are : (text : List ℕ) (x y : AddressesValue) (more : List SocketAddr) → y ≡ addresses_value x.first more (x.found ++ more) → AreOf text x → AreOf text y
-found_are text x y more is are = subst (λ (v : AddressesValue). AreOf text v) (sym is) all
+-- .. and only grows
+pub found_more : (text : List ℕ) (tried : List SocketAddr) (x : AddressesValue) (more : List SocketAddr) → AreOf text tried x
+    → IsPrefixOf x.found (once_found more x).found
+found_more text tried x more are = by_it x.known refl
   where
-    all : AreOf text (addresses_value x.first more (x.found ++ more))
-    all b c =
-        ⊎_elim
-        (λ (own : Contains (option_to_list x.first) b). more_of text x.found more b (are b (Contains-append_left (option_to_list x.first) x.others b own)))
-        (λ (new : Contains more b). inr (Contains-append_right x.found more b new))
-        (Contains-append_cases (option_to_list x.first) more b c)
+    by_it : (b : Bool) → x.known ≡ b → IsPrefixOf x.found (if b then x else addresses_value x.first more true more).found
+    by_it true on = ([], sym (append-nil x.found))
+    by_it false off = (more, ap (λ (l : List SocketAddr). l ++ more) (sym (none_found text tried x (are.none off) are.in_order)))
 
--- the text was that of an address, or none
-pub tried_are : (text own : List ℕ) (b : Bool) (x y : AddressesValue) → own ≡ text → HasParsed own b x y → AreOf text x → AreOf text y
-tried_are text own true x y same p are = parsed_are text x y p.0 (subst (λ (t : List ℕ). IsSocketText t p.0) same p.1) p.2 are
-tried_are text own false x y same p are = subst (λ (v : AddressesValue). AreOf text v) (sym p.1) are
+-- ---- the streams that it went over
 
-pub tried_found : (own : List ℕ) (b : Bool) (x y : AddressesValue) → HasParsed own b x y → y.found ≡ x.found
-tried_found own b x y h4 = grind (arith, nat_tests)
+abbrev streams : List (StreamValue × Bool) → List StreamValue
+streams items = map (λ (t : StreamValue × Bool). t.0) items
+
+abbrev peer : StreamValue → SocketAddr
+peer s = s.peer
+
+-- its stream was given up, and another follows
+pub peers_noted : (items later : List (StreamValue × Bool)) (before : StreamValue) (was : Option SocketAddr) (a : SocketAddr) → later ≡ items ++ (before, true) ∷ []
+    → was ≡ Some before.peer → peers_of (streams later) (Some a) ≡ peers_of (streams items) was ++ a ∷ []
+peers_noted items later before was a is had =
+    ap (λ (l : List SocketAddr). l ++ a ∷ [])
+    (ap (λ (l : List (StreamValue × Bool)). map peer (streams l)) is
+    ∙ ap (λ (l : List StreamValue). map peer l) (map-append (λ (t : StreamValue × Bool). t.0) items ((before, true) ∷ []))
+    ∙ map-append peer (streams items) (before ∷ [])
+    ∙ ap (λ (o : Option SocketAddr). map peer (streams items) ++ option_to_list o) (sym had))
+
+-- it had none, and its first follows
+pub peers_first : (items : List (StreamValue × Bool)) (was : Option SocketAddr) (a : SocketAddr) → was ≡ None
+    → peers_of (streams items) (Some a) ≡ peers_of (streams items) was ++ a ∷ []
+peers_first items was a none =
+    ap (λ (l : List SocketAddr). l ++ a ∷ [])
+    (sym (append-nil (map peer (streams items))) ∙ ap (λ (o : Option SocketAddr). map peer (streams items) ++ option_to_list o) (sym none))

@@ -1,20 +1,41 @@
 -- What a job that is asked for has begun.
-use Rattle.branch_asking.proofs.Words.{◌≡◌, ℕ, Bool, true, false, List, [], ◌∷◌, ◌++◌, All, map, Option, None, Some, refl, sym, ap, ◌∙◌, subst, is_some, All-nil, All-push, map-append, HandedJob, IsPrefixOf, AsksOn, BeginsRequest, IsAddressOf, IsUntouched, StreamValue, inl, inr, request_of, stream_value, SocketAddr, AddressesValue, AreOf, addresses_value, next_of, Asks, AskingState, AttemptValue, HadStream, HasBegun, HasEnded, HasGrown, IsUnsent, IsUntouchedAttempt, asked_for, asking_state, attempt_value}
+use Rattle.branch_asking.proofs.Words.{◌≡◌, ℕ, Bool, true, false, List, [], ◌∷◌, ◌++◌, All, map, Option, None, Some, refl, sym, ap, ◌∙◌, subst, is_some, All-nil, All-push, map-append, HandedJob, IsPrefixOf, AsksOn, BeginsRequest, IsUntouched, StreamValue, inl, inr, request_of, peers_of, stream_value, SocketAddr, AddressesValue, AreOf, addresses_value, next_of, Asks, AskingState, AttemptValue, HadStream, HasBegun, HasEnded, HasGrown, IsUnsent, IsUntouchedAttempt, asked_for, asking_state, attempt_value}
 use Rattle.std.proofs.lemmas.Bool.Decides.{nat_tests}
-use Rattle.std.proofs.Common.{arith, ◌⊎◌, ⊎_elim}
-use Rattle.gateway_theory.specs.lemmas.PastLemmas.{prefix-refl}
-use Rattle.http_pieces.specs.ReplyReader.{HasReadReply}
+use Rattle.std.proofs.Common.{arith, append-nil, append_assoc, length, take, drop, ◌⊎◌, ⊎_elim}
+use Rattle.std.specs.Prelude.{IfSome, MatchOption}
+use Rattle.std.proofs.lemmas.List.{length-append, nil_from_length, take-append-drop}
+use Rattle.gateway_theory.specs.lemmas.PastLemmas.{prefix-refl, prefix-trans}
+use Rattle.http_pieces.specs.declared.framing.Framing.{Framing}
+use Rattle.branch_exchange.specs.Exchange.{BeginsWithReply, ComesTo, ExchangeValue, HasNoReply, IsReading, exchange_value}
+use Rattle.branch_exchange.specs.Outcomes.{asked_of, outcome_of_asked}
+use Rattle.branch_exchange.specs.declared.asked.Asked.{Asked}
+use Rattle.branch_exchange.specs.declared.asked.Asked.TheVariants.{Lost}
+use Rattle.connect_codec.specs.Outcome.{outcome_of}
+use Rattle.connect_codec.specs.declared.answer.Outcome.{Outcome}
+use Rattle.loop_model.specs.Asking.{IsAnswered, IsFair, IsUnanswered, ended_value}
 use Rattle.branch_exchange.specs.declared.exchange_end.Loss.{Loss}
 use Rattle.branch_exchange.specs.declared.exchange_end.ExchangeEnd.{ExchangeEnd}
 use Rattle.branch_exchange.specs.declared.exchange_end.ExchangeEnd.TheVariants as ends
 use Rattle.http_pieces.specs.declared.reply.HttpReply.{HttpReply}
-use Rattle.branch_asking.proofs.AddressLemmas.{new_are, taken_are, taken_is}
+use Rattle.branch_asking.proofs.AddressLemmas.{new_are, taken_are, tried_are}
 
 begins_is : {A : Type 0} (xs ys : List A) → ys ≡ xs → IsPrefixOf xs ys
 begins_is {A} xs ys is = subst (λ (l : List A). IsPrefixOf xs l) (sym is) (prefix-refl xs)
 
 no_reply : (reply : HttpReply) → ends.NoMemory ≡ ends.Reply reply → ⊥
 no_reply reply e = cc
+
+no_loss : (loss : Loss) → ends.NoMemory ≡ ends.Lost loss → ⊥
+no_loss loss e = cc
+
+is_no_reply : (loss : Loss) (reply : HttpReply) → ends.Lost loss ≡ ends.Reply reply → ⊥
+is_no_reply loss reply e = cc
+
+is_no_loss : (reply : HttpReply) (loss : Loss) → ends.Reply reply ≡ ends.Lost loss → ⊥
+is_no_loss reply loss e = cc
+
+same_reply : (a b : HttpReply) → ends.Reply a ≡ ends.Reply b → a ≡ b
+same_reply a b e = cc
 
 some_end : (a b : ExchangeEnd) → Some a ≡ Some b → a ≡ b
 some_end a b e = cc
@@ -25,104 +46,224 @@ some_none a e = cc
 none_of : (end : Option ExchangeEnd) → is_some end ≡ false → end ≡ None
 none_of end h1 = grind (arith, nat_tests)
 
-no_peer : (a : SocketAddr) → None ≡ Some a → ⊥
-no_peer a e = cc
+none_tried : (items : List (StreamValue × Bool)) (peer : Option SocketAddr) → items ≡ [] → peer ≡ None → peers_of (map (λ (t : StreamValue × Bool). t.0) items) peer ≡ []
+none_tried items peer none alone =
+    ap (λ (l : List (StreamValue × Bool)). peers_of (map (λ (t : StreamValue × Bool). t.0) l) peer) none ∙ ap (λ (o : Option SocketAddr). peers_of [] o) alone
 
-module _ (job : HandedJob) (addresses : AddressesValue) (x : AttemptValue) where
+module _ (framing : Framing) (job : HandedJob) (addresses : AddressesValue) (x : AttemptValue) where
   -- it begins, or there is no memory for its request
-  pub new_begins : (end : Option ExchangeEnd) (items : List (StreamValue × Bool)) → items ≡ [] → addresses ≡ addresses_value None [] [] → x.peer ≡ None → IsUntouchedAttempt x
-      → (end ≡ Some ends.NoMemory) ⊎ ((end ≡ None) × Asks (request_of job.job) x) → HasBegun (asking_state job addresses x end items)
+  pub new_begins : (end : Option ExchangeEnd) (items : List (StreamValue × Bool)) → items ≡ [] → addresses ≡ addresses_value None [] false [] → x.peer ≡ None → IsUntouchedAttempt x
+      → (end ≡ Some ends.NoMemory) ⊎ ((end ≡ None) × Asks framing (request_of job.job) x) → HasBegun (asking_state framing job addresses x end items)
   new_begins end items none new alone fresh begins = record {
     untouched = subst (λ (l : List (StreamValue × Bool)). All IsUntouched (map (λ (t : StreamValue × Bool). t.0) l)) (sym none) (All-nil IsUntouched);
-    addressed = record { peer = λ a is. absurd (no_peer a (sym alone ∙ is)); none = λ is. fresh.0 };
-    given = subst (λ (v : AddressesValue). AreOf job.job.address v) (sym new) (new_are job.job.address);
-    asks = λ e. ⊎_elim (λ (starved : end ≡ Some ends.NoMemory). absurd (some_none ends.NoMemory (sym starved ∙ e))) (λ (goes : (end ≡ None) × Asks (request_of job.job) x). goes.1) begins;
+    unsent = λ is. fresh.0;
+    given =
+        subst (λ (v : AddressesValue). AreOf job.job.address (peers_of (map (λ (t : StreamValue × Bool). t.0) items) x.peer) v) (sym new)
+        (new_are job.job.address _ (none_tried items x.peer none alone));
+    asks = λ e. ⊎_elim (λ (starved : end ≡ Some ends.NoMemory). absurd (some_none ends.NoMemory (sym starved ∙ e))) (λ (goes : (end ≡ None) × Asks framing (request_of job.job) x). goes.1) begins;
     ended = λ e is.
         ⊎_elim
         (λ (starved : end ≡ Some ends.NoMemory). record {
           prefix = (request_of job.job, ap (λ (t : List ℕ). t ++ request_of job.job) (sym fresh.0));
           whole = λ reply replies. absurd (no_reply reply (some_end ends.NoMemory e (sym starved ∙ is) ∙ replies));
+          unanswered = λ loss lost. absurd (no_loss loss (some_end ends.NoMemory e (sym starved ∙ is) ∙ lost));
         })
-        (λ (goes : (end ≡ None) × Asks (request_of job.job) x). absurd (some_none e (sym is ∙ goes.0)))
+        (λ (goes : (end ≡ None) × Asks framing (request_of job.job) x). absurd (some_none e (sym is ∙ goes.0)))
         begins;
   }
 
   -- it goes on
   pub begun_on : (y : AttemptValue) (end : Option ExchangeEnd) (items : List (StreamValue × Bool)) → is_some end ≡ false → HasGrown x y
-      → IsUnsent y → (Asks (request_of job.job) x → Asks (request_of job.job) y)
-      → HasBegun (asking_state job addresses x end items) → HasBegun (asking_state job addresses y end items)
+      → IsUnsent y → (Asks framing (request_of job.job) x → Asks framing (request_of job.job) y)
+      → HasBegun (asking_state framing job addresses x end items) → HasBegun (asking_state framing job addresses y end items)
   begun_on y end items off grown unsent goes b = record {
     untouched = b.untouched;
-    addressed = record { peer = λ a is. b.addressed.peer a (sym grown.2 ∙ is); none = unsent };
-    given = b.given;
+    unsent = unsent;
+    given = tried_are job.job.address _ _ addresses (ap (λ (o : Option SocketAddr). peers_of (map (λ (t : StreamValue × Bool). t.0) items) o) grown.2) b.given;
     asks = λ e. goes (b.asks e);
     ended = λ e is. absurd (some_none e (sym is ∙ none_of end off));
   }
 
   -- it ended
   pub begun_ends : (y : AttemptValue) (end now : Option ExchangeEnd) (e : ExchangeEnd) (items : List (StreamValue × Bool)) → is_some end ≡ false → now ≡ Some e
-      → HasGrown x y → IsUnsent y → (Asks (request_of job.job) x → HasEnded (request_of job.job) e y)
-      → HasBegun (asking_state job addresses x end items) → HasBegun (asking_state job addresses y now items)
+      → HasGrown x y → IsUnsent y → (Asks framing (request_of job.job) x → HasEnded framing (request_of job.job) e y)
+      → HasBegun (asking_state framing job addresses x end items) → HasBegun (asking_state framing job addresses y now items)
   begun_ends y end now e items off is grown unsent ends b = record {
     untouched = b.untouched;
-    addressed = record { peer = λ a is. b.addressed.peer a (sym grown.2 ∙ is); none = unsent };
-    given = b.given;
+    unsent = unsent;
+    given = tried_are job.job.address _ _ addresses (ap (λ (o : Option SocketAddr). peers_of (map (λ (t : StreamValue × Bool). t.0) items) o) grown.2) b.given;
     asks = λ none. absurd (some_none e (sym is ∙ none));
-    ended = λ f so. subst (λ (t : ExchangeEnd). HasEnded (request_of job.job) t y) (some_end e f (sym is ∙ so)) (ends (b.asks (none_of end off)));
+    ended = λ f so. subst (λ (t : ExchangeEnd). HasEnded framing (request_of job.job) t y) (some_end e f (sym is ∙ so)) (ends (b.asks (none_of end off)));
   }
 
--- where nothing was written since it is lost
-pub lost_ends : (request : List ℕ) (x y : AttemptValue) (loss : Loss) → y.got ≡ x.got → Asks request x → HasEnded request (ends.Lost loss) y
-lost_ends request x y loss same a = search arith
-
--- its addresses changed
-pub begun_addresses : (job : HandedJob) (x y : AddressesValue) (s : AttemptValue) (end : Option ExchangeEnd) (items : List (StreamValue × Bool))
-    → ((a : SocketAddr) → IsAddressOf job.job.address x.found a → IsAddressOf job.job.address y.found a) → (AreOf job.job.address x → AreOf job.job.address y)
-    → HasBegun (asking_state job x s end items) → HasBegun (asking_state job y s end items)
-begun_addresses job x y s end items more are b = record {
-  untouched = b.untouched;
-  addressed = record { peer = λ a is. more a (b.addressed.peer a is); none = b.addressed.none };
-  given = are b.given;
-  asks = b.asks;
-  ended = b.ended;
+-- where nothing was written or read since it is lost
+pub lost_ends : (framing : Framing) (request : List ℕ) (x y : AttemptValue) (loss : Loss) → y.got ≡ x.got → y.given ≡ x.given → Asks framing request x → HasEnded framing request (ends.Lost loss) y
+lost_ends framing request x y loss same none a = record {
+  prefix = (x.exchange.left, sym a.sends ∙ ap (λ (g : List ℕ). g ++ x.exchange.left) (sym same));
+  whole = λ reply replies. absurd (is_no_reply loss reply replies);
+  unanswered = λ l is whole. subst (λ (g : List ℕ). HasNoReply framing g) (sym none) a.reads.unanswered;
 }
 
+-- some more of the request was written
+pub sent_asks : (framing : Framing) (request : List ℕ) (e f : ExchangeValue) (s t : StreamValue) (connected : Bool) (n : ℕ) (waiting : List ℕ) → waiting ≡ e.left
+    → f ≡ exchange_value (drop n e.left) e.replies → t ≡ stream_value s.peer s.given t.got s.ended → t.got ≡ s.got ++ take n waiting
+    → Asks framing request (attempt_value e (Some s) connected) → Asks framing request (attempt_value f (Some t) true)
+sent_asks framing request e f s t connected n waiting all left rest more a = record {
+  sends =
+      ap (λ (g : List ℕ). g ++ f.left) more ∙ ap (λ (w : List ℕ). (s.got ++ take n w) ++ f.left) all ∙ ap (λ (v : ExchangeValue). (s.got ++ take n e.left) ++ v.left) left
+      ∙ append_assoc s.got (take n e.left) (drop n e.left)
+      ∙ ap (λ (l : List ℕ). s.got ++ l) (take-append-drop n e.left)
+      ∙ a.sends;
+  reads =
+      subst (λ (v : ExchangeValue). IsReading framing v.replies t.given) (sym left)
+      (subst (λ (v : StreamValue). IsReading framing e.replies v.given) (sym rest) a.reads);
+  goes_on = ap (λ (v : StreamValue). v.ended) rest ∙ a.goes_on;
+}
+
+-- a piece was read, and no reply is whole yet
+pub read_asks : (framing : Framing) (request : List ℕ) (e f : ExchangeValue) (s t : StreamValue) (connected : Bool) (piece : List ℕ) → f.left ≡ e.left
+    → t ≡ stream_value s.peer t.given s.got t.ended → t.given ≡ s.given ++ piece → t.ended ≡ s.ended → IsReading framing f.replies (s.given ++ piece)
+    → Asks framing request (attempt_value e (Some s) connected) → Asks framing request (attempt_value f (Some t) true)
+read_asks framing request e f s t connected piece left rest more ended comes a = record {
+  sends = ap (λ (l : List ℕ). t.got ++ l) left ∙ ap (λ (v : StreamValue). v.got ++ e.left) rest ∙ a.sends;
+  reads = subst (λ (g : List ℕ). IsReading framing f.replies g) (sym more) comes;
+  goes_on = ended ∙ a.goes_on;
+}
+
+nothing_left : (got left : List ℕ) → got ++ left ≡ got → left ≡ []
+nothing_left got left e = nil_from_length left (omega (arith, length-append got left, ap (λ (l : List ℕ). length l) e))
+
+-- .. or it ended by that
+pub read_ends : (framing : Framing) (request : List ℕ) (e f : ExchangeValue) (s t : StreamValue) (connected : Bool) (piece : List ℕ) (end : ExchangeEnd)
+    → t ≡ stream_value s.peer t.given s.got t.ended → t.given ≡ s.given ++ piece → ComesTo framing e.left f.replies (s.given ++ piece) (Some end)
+    → Asks framing request (attempt_value e (Some s) connected) → HasEnded framing request end (attempt_value f (Some t) true)
+read_ends framing request e f s t connected piece end rest more comes a = record {
+  prefix = (e.left, sym (ap (λ (v : StreamValue). v.got ++ e.left) rest ∙ a.sends));
+  whole = λ reply is. whole_by end comes reply is;
+  unanswered = λ loss is whole. unanswered_by end comes loss is (nothing_left s.got e.left (a.sends ∙ sym whole ∙ ap (λ (v : StreamValue). v.got) rest));
+}
+  where
+    all_sent : e.left ≡ [] → t.got ≡ request
+    all_sent none = ap (λ (v : StreamValue). v.got) rest ∙ sym (append-nil s.got) ∙ ap (λ (l : List ℕ). s.got ++ l) (sym none) ∙ a.sends
+
+    whole_by : (end : ExchangeEnd) → ComesTo framing e.left f.replies (s.given ++ piece) (Some end) → (reply : HttpReply) → end ≡ ends.Reply reply
+        → (t.got ≡ request) × BeginsWithReply framing t.given reply
+    whole_by (ends.Reply r) c reply is = (
+      all_sent c.1,
+      subst (λ (g : List ℕ). BeginsWithReply framing g reply) (sym more) (subst (λ (q : HttpReply). BeginsWithReply framing (s.given ++ piece) q) (same_reply r reply is) c.0),
+    )
+    whole_by (ends.Lost loss) c reply is = absurd (is_no_reply loss reply is)
+    whole_by ends.NoMemory c reply is = absurd (no_reply reply is)
+
+    unanswered_by : (end : ExchangeEnd) → ComesTo framing e.left f.replies (s.given ++ piece) (Some end) → (loss : Loss) → end ≡ ends.Lost loss → e.left ≡ [] → HasNoReply framing t.given
+    unanswered_by (ends.Reply r) c loss is none = absurd (is_no_loss r loss is)
+    unanswered_by (ends.Lost l) c loss is none = subst (λ (g : List ℕ). HasNoReply framing g) (sym more) (c.1 none)
+    unanswered_by ends.NoMemory c loss is none = absurd (no_loss loss is)
+
+-- it is lost, or there is no memory for it
+pub begun_lost : (framing : Framing) (job : HandedJob) (addresses : AddressesValue) (x : AttemptValue) (end : Option ExchangeEnd) (now : ExchangeEnd) (items : List (StreamValue × Bool)) (loss : Option Loss)
+    → is_some end ≡ false → MatchOption loss (now ≡ ends.NoMemory) (λ l. now ≡ ends.Lost l)
+    → HasBegun (asking_state framing job addresses x end items) → HasBegun (asking_state framing job addresses x (Some now) items)
+begun_lost framing job addresses x end now items loss off told b =
+    begun_ends framing job addresses x x end (Some now) now items off refl (prefix-refl x.given, prefix-refl x.got, refl) b.unsent (λ a. ends_by loss told a) b
+  where
+    ends_by : (loss : Option Loss) → MatchOption loss (now ≡ ends.NoMemory) (λ l. now ≡ ends.Lost l) → Asks framing (request_of job.job) x → HasEnded framing (request_of job.job) now x
+    ends_by None is a = record {
+      prefix = (x.exchange.left, sym a.sends);
+      whole = λ reply replies. absurd (no_reply reply (sym is ∙ replies));
+      unanswered = λ l lost. absurd (no_loss l (sym is ∙ lost));
+    }
+    ends_by (Some l) is a = subst (λ (e : ExchangeEnd). HasEnded framing (request_of job.job) e x) (sym is) (lost_ends framing (request_of job.job) x x l refl refl a)
+
+pub grown_then : (x y z : AttemptValue) → HasGrown x y → HasGrown y z → HasGrown x z
+grown_then x y z p q = (prefix-trans x.given y.given z.given p.0 q.0, prefix-trans x.got y.got z.got p.1 q.1, q.2 ∙ p.2)
+
+-- what was written of it begins its request
+pub begins_request : (x : AskingState) → HasBegun x → BeginsRequest (asked_for x)
+begins_request x b = record {
+  untouched = b.untouched;
+  prefix = begun_prefix x b;
+  addressed = record { later = next_of x.addresses; in_order = b.given.in_order; none = b.unsent };
+}
+  where
+    begun_prefix : (x : AskingState) → HasBegun x → IsPrefixOf x.attempt.got (request_of x.job.job)
+    begun_prefix x b = search arith
+
+-- ---- what is recorded of it
+
+one_outcome : (a b : Outcome) → Some a ≡ Some b → a ≡ b
+one_outcome a b e = cc
+
+no_outcome : (b : Outcome) → None ≡ Some b → ⊥
+no_outcome b e = cc
+
+module _ (x : AskingState) (begun : HasBegun x) where
+  ends_so : (e : ExchangeEnd) (o : Outcome) → HasEnded x.framing (request_of x.job.job) e x.attempt → outcome_of_asked (asked_of e) ≡ Some o
+      → ((o ≡ outcome_of None) × IsUnanswered x.framing (asked_for x)) ⊎ IsAnswered x.framing (asked_for x) o
+  ends_so (ends.Reply reply) o h is =
+      let w = h.whole reply refl in
+      inr record { whole = w.0; reply = reply; rest = w.1.0; begins = w.1.1; outcome_is = sym (one_outcome (outcome_of (Some reply)) o is) }
+  ends_so (ends.Lost loss) o h is = inl (sym (one_outcome (outcome_of None) o is), h.unanswered loss refl)
+  ends_so ends.NoMemory o h is = absurd (no_outcome o is)
+
+  -- as it ended
+  pub fair_end : (e : ExchangeEnd) (a : Asked) (o : Option Outcome) → x.end ≡ Some e → a ≡ asked_of e → IfSome o (λ outcome. outcome_of_asked a ≡ Some outcome)
+      → IsFair x.framing (ended_value (asked_for x) o)
+  fair_end e a None ended asked tells = record { begun = begins_request x begun; outcome = λ o is. absurd (no_outcome o is) }
+  fair_end e a (Some out) ended asked tells = record {
+    begun = begins_request x begun;
+    outcome = λ o is. ends_so e o (begun.ended e ended) (ap outcome_of_asked (sym asked) ∙ tells ∙ is);
+  }
+
+  -- as one that is lost
+  pub fair_loss : (o : Option Outcome) → x.end ≡ None → IfSome o (λ outcome. outcome_of_asked Lost ≡ Some outcome) → IsFair x.framing (ended_value (asked_for x) o)
+  fair_loss None ended tells = record { begun = begins_request x begun; outcome = λ o is. absurd (no_outcome o is) }
+  fair_loss (Some out) ended tells = record {
+    begun = begins_request x begun;
+    outcome = λ o is. inl (sym (one_outcome (outcome_of None) o (tells ∙ is)), λ whole. (begun.asks ended).reads.unanswered);
+  }
+
+-- its addresses changed
+pub begun_addresses : (framing : Framing) (job : HandedJob) (x y : AddressesValue) (s : AttemptValue) (end : Option ExchangeEnd) (items : List (StreamValue × Bool))
+    → ((tried : List SocketAddr) → AreOf job.job.address tried x → AreOf job.job.address tried y)
+    → HasBegun (asking_state framing job x s end items) → HasBegun (asking_state framing job y s end items)
+begun_addresses framing job x y s end items are b = record { untouched = b.untouched; unsent = b.unsent; given = are _ b.given; asks = b.asks; ended = b.ended }
+
 -- it goes over a stream to the next of its addresses
-module _ (job : HandedJob) (x y : AddressesValue) (s t : AttemptValue) (address : SocketAddr) where
+module _ (framing : Framing) (job : HandedJob) (x y : AddressesValue) (s t : AttemptValue) (address : SocketAddr) (items later : List (StreamValue × Bool)) where
   abbrev fresh : AttemptValue
   fresh = attempt_value s.exchange (Some (stream_value address [] [] false)) false
 
-  fresh_begins : (end : Option ExchangeEnd) (items later : List (StreamValue × Bool)) → is_some end ≡ false → next_of x ≡ address ∷ next_of y → y.found ≡ x.found
+  -- it comes behind those that were tried
+  abbrev Follows : Type 0
+  Follows =
+      peers_of (map (λ (t : StreamValue × Bool). t.0) later) (Some address) ≡ peers_of (map (λ (t : StreamValue × Bool). t.0) items) s.peer ++ address ∷ []
+
+  fresh_begins : (end : Option ExchangeEnd) → is_some end ≡ false → next_of x ≡ address ∷ next_of y → y.found ≡ x.found → y.known ≡ x.known → Follows
       → IsUntouchedAttempt s → All IsUntouched (map (λ (u : StreamValue × Bool). u.0) later)
-      → HasBegun (asking_state job x s end items) → HasBegun (asking_state job y fresh end later)
-  fresh_begins end items later off next same touched untouched b = record {
+      → HasBegun (asking_state framing job x s end items) → HasBegun (asking_state framing job y fresh end later)
+  fresh_begins end off next same known follows touched untouched b = record {
     untouched = untouched;
-    addressed = record {
-      peer = λ a is. subst (λ (u : SocketAddr). IsAddressOf job.job.address y.found u) (some_peer address a is) (taken_is job.job.address x y address next same b.given);
-      none = λ is. absurd (some_no_peer address is);
-    };
-    given = taken_are job.job.address x y (Some address) next same b.given;
+    unsent = λ is. absurd (some_no_peer address is);
+    given = taken_are job.job.address _ _ x y address next same known follows b.given;
     asks = λ e. record {
       sends = subst (λ (g : List ℕ). g ++ s.exchange.left ≡ request_of job.job) touched.0 (b.asks e).sends;
-      reads = subst (λ (g : List ℕ). HasReadReply s.exchange.replies g None) touched.1 (b.asks e).reads;
+      reads = subst (λ (g : List ℕ). IsReading framing s.exchange.replies g) touched.1 (b.asks e).reads;
       goes_on = refl;
     };
     ended = λ e is. absurd (some_none e (sym is ∙ none_of end off));
   }
     where
-      some_peer : (a c : SocketAddr) → Some a ≡ Some c → a ≡ c
-      some_peer a c e = cc
-
       some_no_peer : (a : SocketAddr) → Some a ≡ None → ⊥
       some_no_peer a e = cc
 
-  pub begun_connects : (end : Option ExchangeEnd) (items later : List (StreamValue × Bool)) (stream : StreamValue) → is_some end ≡ false → next_of x ≡ address ∷ next_of y
-      → y.found ≡ x.found → IsUntouchedAttempt s → stream ≡ stream_value address [] [] false → t ≡ attempt_value s.exchange (Some stream) false
+  pub begun_connects : (end : Option ExchangeEnd) (stream : StreamValue) → is_some end ≡ false → next_of x ≡ address ∷ next_of y
+      → y.found ≡ x.found → y.known ≡ x.known → Follows → IsUntouchedAttempt s → stream ≡ stream_value address [] [] false → t ≡ attempt_value s.exchange (Some stream) false
       → All IsUntouched (map (λ (u : StreamValue × Bool). u.0) later)
-      → HasBegun (asking_state job x s end items) → HasBegun (asking_state job y t end later)
-  begun_connects end items later stream off next same touched is_stream is untouched b =
-      subst (λ (u : AttemptValue). HasBegun (asking_state job y u end later)) (sym (is ∙ ap (λ (r : StreamValue). attempt_value s.exchange (Some r) false) is_stream))
-      (fresh_begins end items later off next same touched untouched b)
+      → HasBegun (asking_state framing job x s end items) → HasBegun (asking_state framing job y t end later)
+  begun_connects end stream off next same known follows touched is_stream is untouched b =
+      subst (λ (u : AttemptValue). HasBegun (asking_state framing job y u end later)) (sym (is ∙ ap (λ (r : StreamValue). attempt_value s.exchange (Some r) false) is_stream))
+      (fresh_begins end off next same known follows touched untouched b)
 
 -- the stream before is noted
 pub noted_untouched : (items later : List (StreamValue × Bool)) (before : StreamValue) (s : AttemptValue) → later ≡ items ++ (before, true) ∷ [] → HadStream before s
@@ -132,20 +273,24 @@ noted_untouched items later before s is had touched all =
     (sym (ap (λ (l : List (StreamValue × Bool)). map (λ (u : StreamValue × Bool). u.0) l) is ∙ map-append (λ (u : StreamValue × Bool). u.0) items ((before, true) ∷ [])))
     (All-push IsUntouched (map (λ (u : StreamValue × Bool). u.0) items) before all (had.0 ∙ touched.1, had.1 ∙ touched.0))
 
--- what was written of it begins its request
-pub begins_request : (x : AskingState) → HasBegun x → BeginsRequest (asked_for x)
-begins_request x b = search arith
-
 -- ---- what only grows
 
-pub asks_grown : (job : HandedJob) (a : AddressesValue) (x y : AttemptValue) (end : Option ExchangeEnd) (items : List (StreamValue × Bool)) → HasGrown x y
-    → AsksOn (asked_for (asking_state job a x end items)) (asked_for (asking_state job a y end items))
-asks_grown job a x y end items g = record { job = refl; found = prefix-refl a.found; streams = inl record { tried = refl; peer = inr g.2; given = g.0; got = g.1 } }
+pub asks_grown : (framing : Framing) (job : HandedJob) (a : AddressesValue) (x y : AttemptValue) (end : Option ExchangeEnd) (items : List (StreamValue × Bool)) → HasGrown x y
+    → AsksOn (asked_for (asking_state framing job a x end items)) (asked_for (asking_state framing job a y end items))
+asks_grown framing job a x y end items g = record { job = refl; found = prefix-refl a.found; streams = inl record { tried = refl; peer = inr g.2; given = g.0; got = g.1 } }
 
-module _ (job : HandedJob) (a b : AddressesValue) (x y : AttemptValue) (end : Option ExchangeEnd) (items : List (StreamValue × Bool)) where
+pub asks_found : (framing : Framing) (job : HandedJob) (a b : AddressesValue) (x : AttemptValue) (end : Option ExchangeEnd) (items : List (StreamValue × Bool)) → IsPrefixOf a.found b.found
+    → AsksOn (asked_for (asking_state framing job a x end items)) (asked_for (asking_state framing job b x end items))
+asks_found framing job a b x end items more = record {
+  job = refl;
+  found = more;
+  streams = inl record { tried = refl; peer = inr refl; given = prefix-refl x.given; got = prefix-refl x.got };
+}
+
+module _ (framing : Framing) (job : HandedJob) (a b : AddressesValue) (x y : AttemptValue) (end : Option ExchangeEnd) (items : List (StreamValue × Bool)) where
   -- its stream was given up
   pub asks_again : (later : List (StreamValue × Bool)) (before : StreamValue) → b.found ≡ a.found → later ≡ items ++ (before, true) ∷ [] → HadStream before x
-      → AsksOn (asked_for (asking_state job a x end items)) (asked_for (asking_state job b y end later))
+      → AsksOn (asked_for (asking_state framing job a x end items)) (asked_for (asking_state framing job b y end later))
   asks_again later before same noted had = record {
     job = refl;
     found = begins_is a.found b.found same;
@@ -160,7 +305,7 @@ module _ (job : HandedJob) (a b : AddressesValue) (x y : AttemptValue) (end : Op
   }
 
   -- it had none
-  pub asks_first : b.found ≡ a.found → x.peer ≡ None → IsUntouchedAttempt x → AsksOn (asked_for (asking_state job a x end items)) (asked_for (asking_state job b y end items))
+  pub asks_first : b.found ≡ a.found → x.peer ≡ None → IsUntouchedAttempt x → AsksOn (asked_for (asking_state framing job a x end items)) (asked_for (asking_state framing job b y end items))
   asks_first same alone fresh = record {
     job = refl;
     found = begins_is a.found b.found same;

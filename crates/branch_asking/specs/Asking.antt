@@ -2,15 +2,16 @@
 use Rattle.std.specs.Prelude.{◌≡◌, ℕ, Bool, true, false, All, List, [], ◌∷◌, ◌++◌, map, Option, Some, None, option_map}
 use Rattle.std.specs.Option.{option_map_or}
 use Rattle.std.specs.declared.net.socket_addr.SocketAddr.{SocketAddr}
-use Rattle.http_pieces.specs.ReplyReader.{HasReadReply}
+use Rattle.http_pieces.specs.declared.framing.Framing.{Framing}
 use Rattle.http_pieces.specs.declared.reply.HttpReply.{HttpReply}
-use Rattle.branch_exchange.specs.Exchange.{BeginsWithReply, ExchangeValue}
+use Rattle.branch_exchange.specs.Exchange.{BeginsWithReply, ExchangeValue, HasNoReply, IsReading}
 use Rattle.branch_exchange.specs.declared.exchange_end.ExchangeEnd.{ExchangeEnd}
 use Rattle.branch_exchange.specs.declared.exchange_end.ExchangeEnd.TheVariants as ends
+use Rattle.branch_exchange.specs.declared.exchange_end.Loss.{Loss}
 use Rattle.gateway_model.specs.Queue.{IsPrefixOf}
 use Rattle.gateway_theory.specs.Task.{HandedJob}
-use Rattle.loop_model.specs.Asking.{AskingValue, IsAddressed, IsUntouched, StreamValue, request_of, stream_value}
-use Rattle.branch_asking.specs.Addresses.{AddressesValue, AreOf}
+use Rattle.loop_model.specs.Asking.{AskingValue, IsUntouched, StreamValue, peers_of, request_of, stream_value}
+use Rattle.branch_asking.specs.Addresses.{AddressesValue, AreOf, once_found}
 use Rattle.branch_asking.specs.declared.attempt.Step.{Step}
 use Rattle.branch_asking.specs.declared.attempt.Step.TheVariants.{Waits, More, Refused, Ended}
 
@@ -37,17 +38,19 @@ attempt_value exchange stream connected = record {
   connected = connected;
 }
 
--- this request is being written, or its reply is being read and is not whole yet; and no read found the end of its stream, or failed
-pub record Asks (request : List ℕ) (x : AttemptValue) : Type 0 where
+-- this request is being written, or its reply, whose body may be framed so, is being read and is not whole yet; and no read found the end
+-- of its stream, or failed
+pub record Asks (framing : Framing) (request : List ℕ) (x : AttemptValue) : Type 0 where
   pub sends : x.got ++ x.exchange.left ≡ request
-  pub reads : HasReadReply x.exchange.replies x.given None
+  pub reads : IsReading framing x.exchange.replies x.given
   pub goes_on : x.ended ≡ false
 
--- It has ended so: with a reply only if the request was written whole, and what was read begins with that. In any case the first bytes of
--- the request were written, and no others.
-pub record HasEnded (request : List ℕ) (end : ExchangeEnd) (x : AttemptValue) : Type 0 where
+-- It has ended so: with a reply only if the request was written whole, and what was read begins with that; and as lost only if the request
+-- was not, or what was read begins with none. In any case the first bytes of the request were written, and no others.
+pub record HasEnded (framing : Framing) (request : List ℕ) (end : ExchangeEnd) (x : AttemptValue) : Type 0 where
   pub prefix : IsPrefixOf x.got request
-  pub whole : (reply : HttpReply) → end ≡ ends.Reply reply → (x.got ≡ request) × BeginsWithReply x.given reply
+  pub whole : (reply : HttpReply) → end ≡ ends.Reply reply → (x.got ≡ request) × BeginsWithReply framing x.given reply
+  pub unanswered : (loss : Loss) → end ≡ ends.Lost loss → x.got ≡ request → HasNoReply framing x.given
 
 -- nothing was written or read
 abbrev pub IsUntouchedAttempt : AttemptValue → Type 0
@@ -66,29 +69,36 @@ abbrev pub HasGrown : AttemptValue → AttemptValue → Type 0
 HasGrown x y = IsPrefixOf x.given y.given × IsPrefixOf x.got y.got × (y.peer ≡ x.peer)
 
 -- it goes on; or its address accepts no connection; or it has ended so
-abbrev pub StepsTo : List ℕ → Step → AttemptValue → Type 0
-StepsTo request Waits x = Asks request x
-StepsTo request More x = Asks request x
-StepsTo request (Refused kind) x = Asks request x × IsUntouchedAttempt x
-StepsTo request (Ended end) x = HasEnded request end x
+abbrev pub StepsTo : Framing → List ℕ → Step → AttemptValue → Type 0
+StepsTo framing request Waits x = Asks framing request x
+StepsTo framing request More x = Asks framing request x
+StepsTo framing request (Refused kind) x = Asks framing request x × IsUntouchedAttempt x
+StepsTo framing request (Ended end) x = HasEnded framing request end x
 
--- whatever its request is, a step of it is such a one
+-- whatever its request is, and however its reply may be framed, a step of it is such a one
 abbrev pub Steps : AttemptValue → Step → AttemptValue → Type 0
-Steps x step y = (request : List ℕ) → Asks request x → StepsTo request step y
+Steps x step y = (framing : Framing) (request : List ℕ) → Asks framing request x → StepsTo framing request step y
 
 -- ---- the job that it asks for
 
--- the job, its addresses, its attempt, how it ended, if it did, and the streams that were given up before
+-- how its reply may be framed, the job, its addresses, its attempt, how it ended, if it did, and the streams that were given up before
 pub record AskingState : Type 0 where
+  pub framing : Framing
   pub job : HandedJob
   pub addresses : AddressesValue
   pub attempt : AttemptValue
   pub end : Option ExchangeEnd
   pub tried : List StreamValue
 
-abbrev pub asking_state : HandedJob → AddressesValue → AttemptValue → Option ExchangeEnd → List (StreamValue × Bool) → AskingState
-asking_state job addresses attempt end tried =
-    record { job = job; addresses = addresses; attempt = attempt; end = end; tried = map (λ (t : StreamValue × Bool). t.0) tried }
+abbrev pub asking_state : Framing → HandedJob → AddressesValue → AttemptValue → Option ExchangeEnd → List (StreamValue × Bool) → AskingState
+asking_state framing job addresses attempt end tried = record {
+  framing = framing;
+  job = job;
+  addresses = addresses;
+  attempt = attempt;
+  end = end;
+  tried = map (λ (t : StreamValue × Bool). t.0) tried;
+}
 
 -- what the loop shows of it
 abbrev pub asked_for : AskingState → AskingValue
@@ -112,13 +122,14 @@ NotesStream false x y = (y.attempt ≡ x.attempt) × (y.tried ≡ x.tried)
 
 -- these addresses were found for the name, and are its own if that is the address of its job
 abbrev pub Finds : List ℕ → List SocketAddr → AskingState → AskingState → Type 0
-Finds name more x y = (x.job.job.address ≡ name → y.addresses.found ≡ x.addresses.found ++ more) × ((x.job.job.address ≡ name → ⊥) → y ≡ x)
+Finds name more x y =
+    (x.job.job.address ≡ name → y ≡ record x { addresses = once_found more x.addresses }) × ((x.job.job.address ≡ name → ⊥) → y ≡ x)
 
--- nothing was read from the streams that were given up, or written to them; its stream leads to an address of its job, and so will others;
--- and it asks for its job, or ended so
+-- nothing was read from the streams that were given up, or written to them, or written without one; its streams lead to the addresses of
+-- its job, and so will others; and it asks for its job, or ended so
 pub record HasBegun (x : AskingState) : Type 0 where
-  pub addressed : IsAddressed (asked_for x)
-  pub given : AreOf x.job.job.address x.addresses
+  pub unsent : IsUnsent x.attempt
+  pub given : AreOf x.job.job.address (peers_of x.tried x.attempt.peer) x.addresses
   pub untouched : All IsUntouched x.tried
-  pub asks : x.end ≡ None → Asks (request_of x.job.job) x.attempt
-  pub ended : (end : ExchangeEnd) → x.end ≡ Some end → HasEnded (request_of x.job.job) end x.attempt
+  pub asks : x.end ≡ None → Asks x.framing (request_of x.job.job) x.attempt
+  pub ended : (end : ExchangeEnd) → x.end ≡ Some end → HasEnded x.framing (request_of x.job.job) end x.attempt

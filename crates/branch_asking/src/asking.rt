@@ -1,4 +1,4 @@
-ghost use Rattle.std.specs.Prelude.{◌≡◌, ◌↔◌, [], None, Some, true, is_some, IfOk, IfSome, IsFalse, MatchOption, option_and_then};
+ghost use Rattle.std.specs.Prelude.{◌≡◌, ◌↔◌, ◌⊎◌, [], None, Some, true, is_some, IfOk, IfSome, IsFalse, MatchOption, option_and_then};
 ghost use Rattle.std.specs.Borrow.{sem};
 ghost use Rattle.std.specs.Option.{option_map_or};
 ghost use Rattle.branch_causes.specs.Causes.{cause_of_end, status_of_end};
@@ -16,9 +16,9 @@ use crate::errand::Errand;
 use crate::network::Network;
 use branch_causes::{Cause, cause_of_end, status_of_end};
 use branch_exchange::{ExchangeEnd, Loss, outcome_of};
-use connect_codec::{BranchAsk, Outcome, branch_request};
+use connect_codec::{BranchAsk, Outcome, passing_request};
 use gateway_core::Job;
-use http_pieces::Bytes;
+use http_pieces::{Bytes, Framing};
 use http_server::Log;
 use std::alloc::{AllocError, Global};
 use std::collections::VecDeque;
@@ -26,11 +26,13 @@ use std::io::ErrorKind;
 use std::marker::Model;
 use std::mem;
 use std::net::SocketAddr;
-use wires::Wire;
+use wires::{Ready, Wire};
 
 /// A job that is asked for.
 #[derive(Drop)]
 pub struct Asking<W: Wire> {
+    // for proofs: how its reply may be framed
+    framing: Framing,
     job: Job,
     addresses: Addresses,
     attempt: Attempt<W>,
@@ -46,9 +48,9 @@ impl<W: Wire> Model for Asking<W> {
 
     ghost Value = { AskingState };
 
-    ghost view = { λ a. asking_state a.job a.addresses a.attempt a.end a.tried.items };
+    ghost view = { λ a. asking_state a.framing a.job a.addresses a.attempt a.end a.tried.items };
 
-    ghost invariant = { λ a. HasBegun (asking_state a.job a.addresses a.attempt a.end a.tried.items) };
+    ghost invariant = { λ a. HasBegun (asking_state a.framing a.job a.addresses a.attempt a.end a.tried.items) };
 }
 
 /// What a step of a job that is asked for came to.
@@ -67,9 +69,12 @@ pub enum Progress {
 impl<W: Wire> Asking<W> {
     ghost use Rattle.branch_asking.specs.Errands.{LendsErrand};
 
-    /// The job, before anything was done for it. One for whose request there is no memory is over.
-    pub fn new(alloc: Global, job: Job, errand: Errand) -> Asking<W>
+    /// The job, before anything was done for it, whose reply may be framed so. One for whose request there is no memory
+    /// is over.
+    pub fn new(alloc: Global, framing: Framing, job: Job, errand: Errand) -> Asking<W>
+        ensures framing { result.framing ≡ framing }
         ensures job { result.job ≡ job }
+        ensures found { result.addresses.found ≡ [] }
         ensures over { IfSome result.end (λ end. end ≡ ExchangeEnd.NoMemory) }
     {
         let (request, end) = match request_of(alloc, &job) {
@@ -77,9 +82,10 @@ impl<W: Wire> Asking<W> {
             Err(_) => (Bytes::new(alloc), Some(ExchangeEnd::NoMemory)),
         };
         Asking {
+            framing,
             job,
             addresses: Addresses::new(alloc),
-            attempt: Attempt::new(alloc, request),
+            attempt: Attempt::new(alloc, framing, request),
             end,
             errand,
             tried: Log::new(),
@@ -135,6 +141,22 @@ impl<W: Wire> Asking<W> {
         &self.attempt
     }
 
+    /// Something became possible at its stream; whether that may be told of another's, too, that had the token before.
+    pub fn report(&mut self, ready: Ready, is_shared: bool)
+        ensures { self.new ≡ self.old }
+    {
+        self.errand.note_ready(ready, is_shared);
+        self.attempt.report(ready);
+    }
+
+    /// Watches its stream by that token. False where it has none, or can't.
+    pub fn watch<N: Network<W>>(&mut self, net: &mut N, token: usize) -> bool
+        ensures same { self.new ≡ self.old }
+        ensures told { N.told net.new ≡ N.told net.old }
+    {
+        self.attempt.watch(net, token)
+    }
+
     /// What was written for it begins its request, and nothing was written to a stream that was given up. It does
     /// nothing.
     pub fn begun_law(&self)
@@ -152,7 +174,9 @@ impl<W: Wire> Asking<W> {
 
     /// Whether its job's address is no name. It is to be tried then.
     pub fn has_address(&mut self) -> bool
+        ensures framing { self.new.framing ≡ self.old.framing }
         ensures job { self.new.job ≡ self.old.job }
+        ensures found { self.new.addresses.found ≡ self.old.addresses.found }
         ensures end { self.new.end ≡ self.old.end }
         ensures on { AsksOn (asked_for self.old) (asked_for self.new) }
         ensures parsed { HasParsed self.old.job.job.address result self.old.addresses self.new.addresses }
@@ -162,7 +186,9 @@ impl<W: Wire> Asking<W> {
 
     /// These addresses were found for the name. They are to be tried, if it is that of its job.
     pub fn find(&mut self, name: &str, found: VecDeque<SocketAddr>)
+        ensures framing { self.new.framing ≡ self.old.framing }
         ensures job { self.new.job ≡ self.old.job }
+        ensures own { (self.new ≡ self.old) ⊎ (self.old.job.job.address ≡ name.now) }
         ensures end { self.new.end ≡ self.old.end }
         ensures on { AsksOn (asked_for self.old) (asked_for self.new) }
         ensures found { Finds name.now found.items self.old self.new }
@@ -174,14 +200,16 @@ impl<W: Wire> Asking<W> {
 
     /// Writes what can be written of the request, and reads what can be read of the reply.
     pub fn step(&mut self) -> Progress
+        ensures framing { self.new.framing ≡ self.old.framing }
         ensures job { self.new.job ≡ self.old.job }
+        ensures found { self.new.addresses.found ≡ self.old.addresses.found }
         ensures on { AsksOn (asked_for self.old) (asked_for self.new) }
         ensures over { (result ≡ Progress.Ended) ↔ (is_some self.new.end ≡ true) }
     {
         if self.end.is_some() {
             return Progress::Ended;
         }
-        let step = self.attempt.step(&mut self.errand.edges);
+        let step = self.attempt.step();
         self.attempt.unsent_law();
         match step {
             Step::Waits => Progress::Waits,
@@ -196,7 +224,9 @@ impl<W: Wire> Asking<W> {
 
     /// It is over. One that had not ended is lost by this, whatever was read; None for want of memory.
     pub fn lose(&mut self, loss: Option<Loss>)
+        ensures framing { self.new.framing ≡ self.old.framing }
         ensures job { self.new.job ≡ self.old.job }
+        ensures found { self.new.addresses.found ≡ self.old.addresses.found }
         ensures on { AsksOn (asked_for self.old) (asked_for self.new) }
         ensures kept { (end : ExchangeEnd) → self.old.end ≡ Some end → self.new ≡ self.old }
         ensures lost { self.old.end ≡ None → MatchOption loss (self.new.end ≡ Some ExchangeEnd.NoMemory)
@@ -209,9 +239,11 @@ impl<W: Wire> Asking<W> {
 
     /// The outcome that is to be recorded; None for want of memory. One that has not ended is lost.
     pub fn conclude(&mut self, alloc: Global) -> Option<Outcome>
+        ensures framing { self.new.framing ≡ self.old.framing }
         ensures job { self.new.job ≡ self.old.job }
+        ensures found { self.new.addresses.found ≡ self.old.addresses.found }
         ensures on { AsksOn (asked_for self.old) (asked_for self.new) }
-        ensures fair { IsFair (ended_value (asked_for self.new) result) }
+        ensures fair { IsFair self.new.framing (ended_value (asked_for self.new) result) }
         ensures tells { (end : ExchangeEnd) → self.old.end ≡ Some end
             → IfSome result (λ outcome. outcome_of_asked (asked_of end) ≡ Some outcome) }
     {
@@ -226,7 +258,9 @@ impl<W: Wire + Drop> Asking<W> {
     /// It goes over a stream to the next of its addresses from now on; unless it ended, or its stream took a byte.
     /// False where there is no other address.
     pub fn connect<N: Network<W>>(&mut self, net: &mut N) -> bool
+        ensures framing { self.new.framing ≡ self.old.framing }
         ensures job { self.new.job ≡ self.old.job }
+        ensures found { self.new.addresses.found ≡ self.old.addresses.found }
         ensures on { AsksOn (asked_for self.old) (asked_for self.new) }
         ensures notes { NotesStream result self.old self.new }
         ensures told { N.told net.new ≡ N.told net.old }
@@ -265,5 +299,5 @@ fn request_of(alloc: Global, job: &Job) -> Result<Bytes, AllocError>
         request_id: job.request_id(),
         body: job.body(),
     };
-    branch_request(alloc, &ask)
+    passing_request(alloc, &ask, &job.passed())
 }

@@ -1,16 +1,16 @@
-ghost use Rattle.std.specs.Prelude.{◌≡◌, ◌↔◌, ℕ, List, [], None, Some, IfSome, IsTrue, IsFalse, false};
+ghost use Rattle.std.specs.Prelude.{◌≡◌, None, Some, IfSome, IsFalse, false};
 ghost use Rattle.loop_model.specs.Asking.{IsUntouched};
 ghost use Rattle.branch_asking.specs.Asking.{Asks, HadStream, HasGrown, IsUnsent, IsUntouchedAttempt, Steps, attempt_value};
 
 use crate::backend::Backend;
-use crate::edges::Edges;
+use crate::network::Network;
 use branch_exchange::{Exchange, ExchangeEnd, Loss};
-use http_pieces::Bytes;
+use http_pieces::{Bytes, Framing};
 use std::alloc::Global;
 use std::io::ErrorKind;
 use std::marker::Model;
 use std::mem;
-use wires::{Got, PIECE, Sent, Wire};
+use wires::{Got, PIECE, Ready, Sent, Wire};
 
 /// So often its stream is read in a turn at most, and written.
 const MOST_STEPS: u32 = 4;
@@ -51,22 +51,38 @@ pub(crate) enum Step {
 }
 
 impl<W: Wire> Attempt<W> {
-    /// Before anything was done for this request.
-    pub(crate) fn new(alloc: Global, request: Bytes) -> Attempt<W>
-        ensures asks { Asks request result }
+    /// Before anything was done for this request, whose reply may be framed so.
+    pub(crate) fn new(alloc: Global, framing: Framing, request: Bytes) -> Attempt<W>
+        ensures asks { Asks framing request result }
         ensures untouched { IsUntouchedAttempt result }
         ensures alone { result.peer ≡ None }
     {
         Attempt {
-            exchange: Exchange::new(alloc, request),
+            exchange: Exchange::new(alloc, framing, request),
             stream: None,
             is_connected: false,
         }
     }
 
-    /// Its stream, once its address is known.
-    pub fn wire(&self) -> Option<&W> {
-        Some(self.stream.as_ref()?.wire())
+    /// Watches its stream by that token. False where it has none, or can't.
+    pub(crate) fn watch<N: Network<W>>(&mut self, net: &mut N, token: usize) -> bool
+        ensures same { self.new ≡ self.old }
+        ensures told { N.told net.new ≡ N.told net.old }
+    {
+        let writes = !self.exchange.is_sent();
+        match &mut self.stream {
+            Some(stream) => stream.watch(net, token, writes),
+            None => false,
+        }
+    }
+
+    /// Something became possible at its stream.
+    pub(crate) fn report(&mut self, ready: Ready)
+        ensures { self.new ≡ self.old }
+    {
+        if let Some(stream) = &mut self.stream {
+            stream.report(ready);
+        }
     }
 
     /// Whether its stream took a byte.
@@ -89,25 +105,18 @@ impl<W: Wire> Attempt<W> {
         let _ = &self.stream;
     }
 
-    /// Whether its request was written whole.
-    pub fn is_sent(&self) -> bool
-        ensures { IsTrue result ↔ (self.now.exchange.left ≡ []) }
-    {
-        self.exchange.is_sent()
-    }
-
     /// How many bytes of its request are left to be written.
     pub(crate) fn left(&self) -> usize {
         self.exchange.request().waiting().len()
     }
 
     /// Writes what can be written of the request, and reads what can be read of the reply.
-    pub(crate) fn step(&mut self, edges: &mut Edges) -> Step
+    pub(crate) fn step(&mut self) -> Step
         ensures steps { Steps self.old result self.new }
         ensures grows { HasGrown self.old self.new }
     {
         for _step in 0..MOST_STEPS {
-            match self.step_once(edges) {
+            match self.step_once() {
                 Step::More => {}
                 step => return step,
             }
@@ -117,38 +126,39 @@ impl<W: Wire> Attempt<W> {
 
     /// Writes once while some of the request is left. Reads once where it was written whole, and where its stream takes
     /// no more for now: a backend may answer, or end its stream, without reading on.
-    fn step_once(&mut self, edges: &mut Edges) -> Step
+    fn step_once(&mut self) -> Step
         ensures steps { Steps self.old result self.new }
         ensures grows { HasGrown self.old self.new }
     {
-        if !self.exchange.is_sent() && (edges.may_write || !self.is_connected) {
-            return self.send(edges);
+        if !self.exchange.is_sent() && (self.may_write() || !self.is_connected) {
+            return self.send();
         }
-        self.receive(edges)
+        self.receive()
+    }
+
+    /// Whether its stream may take a write.
+    fn may_write(&self) -> bool {
+        self.stream.as_ref().is_some_and(Backend::may_write)
     }
 
     /// Writes once of what is left of the request.
-    fn send(&mut self, edges: &mut Edges) -> Step
+    fn send(&mut self) -> Step
         ensures steps { Steps self.old result self.new }
         ensures grows { HasGrown self.old self.new }
     {
-        if !edges.may_write {
-            return Step::Waits;
-        }
         let Some(stream) = &mut self.stream else {
             return Step::Waits;
         };
+        if !stream.may_write() {
+            return Step::Waits;
+        }
         match stream.write(self.exchange.request()) {
             Sent::Bytes(count) => {
                 self.exchange.sent(count);
                 self.is_connected = true;
                 Step::More
             }
-            Sent::Nothing => {
-                edges.may_write = false;
-                Step::More
-            }
-            Sent::Interrupted => Step::More,
+            Sent::Nothing | Sent::Interrupted => Step::More,
             Sent::Failed(kind) if self.is_connected => {
                 Step::Ended(ExchangeEnd::Lost(Loss::Write(kind)))
             }
@@ -157,30 +167,26 @@ impl<W: Wire> Attempt<W> {
     }
 
     /// Reads once of the reply.
-    fn receive(&mut self, edges: &mut Edges) -> Step
+    fn receive(&mut self) -> Step
         ensures steps { Steps self.old result self.new }
         ensures grows { HasGrown self.old self.new }
     {
-        if !edges.may_read {
-            return Step::Waits;
-        }
         let Some(stream) = &mut self.stream else {
             return Step::Waits;
         };
+        if !stream.may_read() {
+            return Step::Waits;
+        }
         let mut piece = [0u8; PIECE];
         match stream.read(&mut piece) {
             Got::Bytes(count) => {
                 self.is_connected = true;
-                edges.has_read(count);
                 match self.exchange.received(&piece[..count]) {
                     Some(end) => Step::Ended(end),
                     None => Step::More,
                 }
             }
-            Got::Nothing => {
-                edges.may_read = false;
-                Step::Waits
-            }
+            Got::Nothing => Step::Waits,
             Got::Interrupted => Step::More,
             Got::End(Some(kind)) => Step::Ended(ExchangeEnd::Lost(Loss::Read(kind))),
             Got::End(None) => Step::Ended(ExchangeEnd::Lost(self.exchange.loss_at_end())),

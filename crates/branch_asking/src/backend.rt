@@ -5,7 +5,7 @@ ghost use Rattle.wires.specs.Wires.{Ends, Gives, Takes};
 use crate::network::Network;
 use std::marker::Model;
 use std::net::SocketAddr;
-use wires::{Got, Outbox, PIECE, Sent, Wire};
+use wires::{Got, Outbox, PIECE, Ready, Sent, Wire};
 
 /// A stream to a backend. Contracts see the address that it was connected to, what was read from it and written to it,
 /// and whether a read found its end, or failed.
@@ -39,8 +39,29 @@ impl<W: Wire> Backend<W> {
         }
     }
 
-    pub(crate) fn wire(&self) -> &W {
-        &self.wire
+    /// Watches it by that token, for room to write too with `writes`. False where it can't.
+    pub(crate) fn watch<N: Network<W>>(&mut self, net: &mut N, token: usize, writes: bool) -> bool
+        ensures same { self.new ≡ self.old }
+        ensures told { N.told net.new ≡ N.told net.old }
+    {
+        net.watch(&mut self.wire, token, writes)
+    }
+
+    /// Something became possible.
+    pub(crate) fn report(&mut self, ready: Ready)
+        ensures { self.new ≡ self.old }
+    {
+        self.wire.report(ready);
+    }
+
+    /// Whether a read may bring something.
+    pub(crate) fn may_read(&self) -> bool {
+        self.wire.may_read()
+    }
+
+    /// Whether a write may be taken.
+    pub(crate) fn may_write(&self) -> bool {
+        self.wire.may_write()
     }
 
     pub(crate) fn into_wire(self) -> W {

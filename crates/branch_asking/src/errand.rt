@@ -1,7 +1,7 @@
 ghost use Rattle.std.specs.Prelude.{◌≡◌, ◌↔◌, IsFalse};
 
-use crate::edges::{Edges, Ready};
 use std::mem;
+use wires::Ready;
 
 /// What a loop notes of a job that it asks for. No law speaks of it.
 #[derive(Drop)]
@@ -10,7 +10,6 @@ pub struct Errand {
     pub client: Option<usize>,
     /// The moment at which it began.
     pub began: u64,
-    pub edges: Edges,
     /// Whether its backend is known to have ended its stream.
     pub has_ended: bool,
     /// Until when it goes on, by its timer, if it has one.
@@ -27,7 +26,6 @@ impl Errand {
         Errand {
             client,
             began,
-            edges: Edges::new(),
             has_ended: false,
             until: None,
             waits: None,
@@ -36,8 +34,7 @@ impl Errand {
     }
 
     /// Something became possible; whether that may be told of another's stream, too, that had the token before.
-    pub fn note_ready(&mut self, ready: Ready, is_shared: bool) {
-        self.edges.note(ready);
+    pub(crate) fn note_ready(&mut self, ready: Ready, is_shared: bool) {
         self.has_ended |= ready.read_closed && !is_shared;
     }
 
@@ -66,7 +63,6 @@ impl Errand {
 
     /// Its stream is a new one.
     pub(crate) fn has_new_stream(&mut self) {
-        self.edges = Edges::new();
         self.has_ended = false;
     }
 }

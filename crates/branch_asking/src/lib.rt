@@ -7,13 +7,11 @@ mod asking;
 mod attempt;
 mod backend;
 mod branch_end;
-mod edges;
 mod errand;
 mod network;
 
 pub use asking::{Asking, Progress};
 pub use attempt::Attempt;
 pub use branch_end::BranchEnd;
-pub use edges::{Edges, Ready};
 pub use errand::Errand;
 pub use network::Network;

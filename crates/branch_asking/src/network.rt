@@ -1,4 +1,4 @@
-ghost use Rattle.std.specs.Prelude.{◌≡◌, ◌∷◌, ◌++◌, ℕ, List, [], false};
+ghost use Rattle.std.specs.Prelude.{◌≡◌, ◌∷◌, ◌++◌, ℕ, List, [], false, true, None, Some, IsTrue};
 
 use crate::branch_end::BranchEnd;
 use gateway_core::{CallId, ConnId, Job, ReplyEntry, RequestLabel};
@@ -20,12 +20,23 @@ pub trait Network<W: Wire> {
         ensures told { told self.new ≡ told self.old }
         ensures given { W.given result ≡ [] }
         ensures got { W.got result ≡ [] }
-        ensures ended { W.ended result ≡ false };
+        ensures ended { W.ended result ≡ false }
+        ensures reads { W.reads result ≡ false }
+        ensures writes { W.writes result ≡ true }
+        ensures watched { W.watched result ≡ None }
+        ensures reported { W.reported result ≡ [] };
 
     /// Watches the wire: whenever bytes come, its end, or, with `writes`, room to write, a `Ready` of this token tells
     /// so once. False where it can't.
-    fn watch(&mut self, wire: &W, token: usize, writes: bool) -> bool
-        ensures told { told self.new ≡ told self.old };
+    fn watch(&mut self, wire: &mut W, token: usize, writes: bool) -> bool
+        ensures told { told self.new ≡ told self.old }
+        ensures watched { IsTrue result → W.watched wire.new ≡ Some (token, writes) }
+        ensures given { W.given wire.new ≡ W.given wire.old }
+        ensures got { W.got wire.new ≡ W.got wire.old }
+        ensures ended { W.ended wire.new ≡ W.ended wire.old }
+        ensures reads { W.reads wire.new ≡ W.reads wire.old }
+        ensures writes { W.writes wire.new ≡ W.writes wire.old }
+        ensures reported { W.reported wire.new ≡ W.reported wire.old };
 
     /// Has the name, `host:port`, looked up: a `LookedUp` tells later what came of it. False where it can't.
     fn look_up(&mut self, name: &str) -> bool

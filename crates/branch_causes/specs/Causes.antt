@@ -19,7 +19,7 @@ use Rattle.branch_causes.specs.declared.cause.Cause.{Cause}
 use Rattle.branch_causes.specs.declared.cause.Cause.TheVariants.{Answer, Status, ContentType, NotJson, Deadline}
 use Rattle.branch_causes.specs.declared.cause.Cause.TheVariants.{NotWanted, NeverAsked, Drained, NoSuchName, Refused, NoRoute}
 use Rattle.branch_causes.specs.declared.cause.Cause.TheVariants.{NoPort, NoConnection, Reset, Failed, NoByte, ClosedEarly}
-use Rattle.branch_causes.specs.declared.cause.Cause.TheVariants.{BeforeRequest, BadHead, NoFixedLength, TooLong}
+use Rattle.branch_causes.specs.declared.cause.Cause.TheVariants.{BeforeRequest, BadHead, NoFixedLength, BadChunk, TooLong}
 use Rattle.branch_causes.specs.declared.cause.Cause.TheVariants.{TooManyPieces, NoDescriptor, NoMemory}
 
 -- why a read, a write or a connection failed
@@ -44,6 +44,7 @@ cause_of_fault (fault.BadLength status) = BadHead
 cause_of_fault (fault.NotFixedLength status) = NoFixedLength
 cause_of_fault fault.HeadTooLarge = TooLong
 cause_of_fault (fault.BodyTooLarge status) = TooLong
+cause_of_fault (fault.BadChunk status) = BadChunk
 
 -- why no reply came
 abbrev pub cause_of_loss : Loss → Cause
@@ -81,6 +82,7 @@ cause_name ClosedEarly = codes "closed early"
 cause_name BeforeRequest = codes "reply before the request"
 cause_name BadHead = codes "bad head"
 cause_name NoFixedLength = codes "no fixed length"
+cause_name BadChunk = codes "bad chunk"
 cause_name TooLong = codes "too long"
 cause_name TooManyPieces = codes "too many pieces"
 cause_name NoDescriptor = codes "no descriptor"
@@ -99,6 +101,7 @@ status_of_fault fault.NotAHead = None
 status_of_fault (fault.NotFixedLength status) = Some status
 status_of_fault (fault.BadLength status) = Some status
 status_of_fault (fault.BodyTooLarge status) = Some status
+status_of_fault (fault.BadChunk status) = Some status
 
 -- its status
 abbrev pub status_of_end : ExchangeEnd → Option ℕ

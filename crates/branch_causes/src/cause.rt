@@ -50,8 +50,10 @@ pub enum Cause {
     BeforeRequest,
     /// What came does not begin as a reply does, or its length is badly told.
     BadHead,
-    /// The length of its body is not told: it comes in chunks, or up to the end of the stream.
+    /// The length of its body is not told: it comes in chunks that are not taken, or up to the end of the stream.
     NoFixedLength,
+    /// Its body comes in chunks, and these are not as they must be.
+    BadChunk,
     /// Its head or its body is too long.
     TooLong,
     /// It came in too many pieces.
@@ -99,6 +101,7 @@ impl Cause {
             Cause::BeforeRequest => "reply before the request",
             Cause::BadHead => "bad head",
             Cause::NoFixedLength => "no fixed length",
+            Cause::BadChunk => "bad chunk",
             Cause::TooLong => "too long",
             Cause::TooManyPieces => "too many pieces",
             Cause::NoDescriptor => "no descriptor",
@@ -138,7 +141,8 @@ fn status_of_fault(fault: ReplyFault) -> Option<u16>
         ReplyFault::HeadTooLarge | ReplyFault::NotAHead => None,
         ReplyFault::NotFixedLength(status)
         | ReplyFault::BadLength(status)
-        | ReplyFault::BodyTooLarge(status) => Some(status.as_u16()),
+        | ReplyFault::BodyTooLarge(status)
+        | ReplyFault::BadChunk(status) => Some(status.as_u16()),
     }
 }
 
@@ -199,5 +203,6 @@ fn cause_of_fault(fault: ReplyFault) -> Cause
         ReplyFault::NotAHead | ReplyFault::BadLength(_) => Cause::BadHead,
         ReplyFault::NotFixedLength(_) => Cause::NoFixedLength,
         ReplyFault::HeadTooLarge | ReplyFault::BodyTooLarge(_) => Cause::TooLong,
+        ReplyFault::BadChunk(_) => Cause::BadChunk,
     }
 }

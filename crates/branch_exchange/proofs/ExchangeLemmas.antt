@@ -1,35 +1,99 @@
 -- What was read in an exchange.
-use Rattle.std.specs.Prelude.{◌≡◌, ℕ, ◌⊎◌, List, ◌++◌, length, take, drop, Option, Some, None, MatchOption}
-use Rattle.std.proofs.Common.{arith, subst, ap, ◌∙◌, append_assoc, ⊎_elim}
-use Rattle.http_pieces.specs.Cut.{Complete, IsCut}
+use Rattle.std.specs.Prelude.{◌≡◌, ℕ, ◌⊎◌, List, [], ◌++◌, length, take, drop, Option, Some, None, IfSome, MatchOption}
+use Rattle.std.proofs.Common.{arith, subst, ap, refl, sym, ◌∙◌, append-nil, append_assoc, ⊎_elim}
+use Rattle.http_pieces.specs.Cut.{Complete, Cut, Incomplete, IsCut, Refused}
 use Rattle.http_pieces.specs.ReplyHead.{reply_kind}
-use Rattle.http_pieces.specs.ReplyReader.{HasReadReply, HasReadReplyTo, ReplyReading, ReplyReaderValue, Partial, Waiting, Stopped, Done, state_of_reply}
+use Rattle.http_pieces.specs.ReplyReader.{HasReadReply, HasReadReplyTo, ReplyReading, ReplyReaderValue, chunked_on, reader_framing, Partial, Decoding, Waiting, Stopped, Done, state_of_reply}
+use Rattle.http_pieces.specs.declared.framing.Framing.{Framing}
 use Rattle.http_pieces.specs.declared.reply.HttpReply.{HttpReply}
-use Rattle.branch_exchange.specs.Exchange.{BeginsWithReply, IsLostBy, TakesIn, loss_in}
+use Rattle.http_pieces.specs.declared.reply_fault.ReplyFault.{ReplyFault}
+use Rattle.branch_exchange.specs.Exchange.{BeginsWithReply, HasNoReply, IsLostBy, IsReading, TakesIn, loss_in}
 use Rattle.std.proofs.lemmas.List.{take_all, take-append-drop}
 
-reply_cut : (reading : ReplyReading) (text : List ℕ) (reply : HttpReply) → HasReadReplyTo reading text (Some reply) → BeginsWithReply text reply
-reply_cut (Partial left) text reply h = absurd (cc h.0)
-reply_cut (Waiting q) text reply h = absurd (cc h.0)
-reply_cut (Stopped f) text reply h = absurd (cc h.0)
-reply_cut Done text reply h =
-    let same : h.0 ≡ reply = cc in (h.1, subst (λ q. IsCut reply_kind text (Complete q h.1)) same h.3)
+reply_cut : (framing : Framing) (reading : ReplyReading) (text : List ℕ) (reply : HttpReply) → HasReadReplyTo framing reading text (Some reply)
+    → BeginsWithReply framing text reply
+reply_cut framing (Partial left) text reply h = absurd (cc h.0)
+reply_cut framing (Decoding chunks) text reply h = absurd (cc h.0)
+reply_cut framing (Waiting q) text reply h = absurd (cc h.0)
+reply_cut framing (Stopped f) text reply h = absurd (cc h.0)
+reply_cut framing Done text reply h =
+    let same : h.0 ≡ reply = cc in (h.1, subst (λ q. IsCut (reply_kind framing) text (Complete q h.1)) same h.3)
+
+-- a text is cut in one way
+abbrev CutsOnce : Framing → Type 0
+CutsOnce framing = (text : List ℕ) (c d : Cut ReplyFault HttpReply) → IsCut (reply_kind framing) text c → IsCut (reply_kind framing) text d → c ≡ d
+
+no_more : (reply : HttpReply) (rest : List ℕ) → ◌≡◌ {A = Cut ReplyFault HttpReply} Incomplete (Complete reply rest) → ⊥
+no_more reply rest e = cc
+
+no_fault : (f : ReplyFault) (reply : HttpReply) (rest : List ℕ) → ◌≡◌ {A = Cut ReplyFault HttpReply} (Refused f) (Complete reply rest) → ⊥
+no_fault f reply rest e = cc
+
+none_is : (q : HttpReply) → None ≡ Some q → ⊥
+none_is q e = cc
+
+-- what was read has no whole reply where none waits to be taken
+pub unanswered : (framing : Framing) → CutsOnce framing → (reading : ReplyReading) (text : List ℕ) → ((q : HttpReply) → reading ≡ Waiting q → ⊥)
+    → HasReadReplyTo framing reading text None → HasNoReply framing text
+unanswered framing once (Partial left) text waits h = λ reply b. no_more reply b.0 (once text Incomplete (Complete reply b.0) h.2 b.1)
+unanswered framing once (Decoding chunks) text waits h = λ reply b.
+    let open_still : IsCut (reply_kind framing) text Incomplete =
+    subst (IsCut (reply_kind framing) text) h.1 (subst (λ t. IsCut (reply_kind framing) t (chunked_on chunks [])) (append-nil text) (h.2 [])) in
+    no_more reply b.0 (once text Incomplete (Complete reply b.0) open_still b.1)
+unanswered framing once (Waiting q) text waits h = absurd (waits q refl)
+unanswered framing once (Stopped f) text waits h = λ reply b. no_fault f reply b.0 (once text (Refused f) (Complete reply b.0) h.1 b.1)
+unanswered framing once Done text waits h = absurd (cc h.2)
+
+not_waiting : (q : HttpReply) → ◌≡◌ {A = ReplyReading} (Partial []) (Waiting q) → ⊥
+not_waiting q e = cc
+
+-- a new reader has read nothing
+pub fresh_reading : (framing : Framing) → CutsOnce framing → (reader : ReplyReaderValue) → reader ≡ reader_framing framing (Partial []) → HasReadReply reader [] None
+    → IsReading framing reader []
+fresh_reading framing once reader is h =
+    let framed : reader.framing ≡ framing = ap (λ (r : ReplyReaderValue). r.framing) is in
+    record {
+      framing_is = framed;
+      reads = h;
+      unanswered =
+          unanswered framing once reader.reading [] (λ q waits. not_waiting q (sym (ap (λ (r : ReplyReaderValue). r.reading) is) ∙ waits))
+          (subst (λ f. HasReadReplyTo f reader.reading [] None) framed h.reads);
+    }
 
 -- a reader that has no reply took the whole piece; and a text that begins with a reply does so with more behind it
-pub takes_in : ((text more : List ℕ) (q : HttpReply) (rest : List ℕ) → IsCut reply_kind text (Complete q rest) → IsCut reply_kind (text ++ more) (Complete q (rest ++ more)))
-    → (bytes piece : List ℕ) (n : ℕ) (pushed reader : ReplyReaderValue) (reply : Option HttpReply)
+pub takes_in : (framing : Framing) → CutsOnce framing
+    → ((text more : List ℕ) (q : HttpReply) (rest : List ℕ) → IsCut (reply_kind framing) text (Complete q rest) → IsCut (reply_kind framing) (text ++ more) (Complete q (rest ++ more)))
+    → (bytes piece : List ℕ) (n : ℕ) (pushed reader : ReplyReaderValue) (reply : Option HttpReply) → pushed.framing ≡ framing
     → (n ≡ length piece) ⊎ ((q : HttpReply) × (pushed.reading ≡ Waiting q)) → ((q : HttpReply) → pushed.reading ≡ Waiting q → reply ≡ Some q)
-    → MatchOption reply (HasReadReply reader (bytes ++ take n piece) None) (λ q. HasReadReply reader (bytes ++ take n piece) (Some q)) → TakesIn reader (bytes ++ piece) reply
-takes_in stay bytes piece n pushed reader None all waits h =
-    ⊎_elim (λ e. subst (λ xs. HasReadReply reader (bytes ++ xs) None) (take_all n piece (omega (arith, e))) h) (λ w. absurd (cc (waits w.0 w.1))) all
-takes_in stay bytes piece n pushed reader (Some q) all waits h =
-    let cut = reply_cut reader.reading _ q h.reads in
+    → (reply ≡ None → reader ≡ pushed) → IfSome reply (λ q. reader ≡ record pushed { reading = Done }) → MatchOption reply (HasReadReply reader (bytes ++ take n piece) None) (λ q. HasReadReply reader (bytes ++ take n piece) (Some q))
+    → TakesIn framing reader (bytes ++ piece) reply
+takes_in framing once stay bytes piece n pushed reader None pushed_is all waits same after h =
+    ⊎_elim
+    (λ e.
+    let framed : reader.framing ≡ framing = ap (λ (r : ReplyReaderValue). r.framing) (same refl) ∙ pushed_is in
+    let read = subst (λ xs. HasReadReply reader (bytes ++ xs) None) (take_all n piece (omega (arith, e))) h in
+    record {
+      framing_is = framed;
+      reads = read;
+      unanswered =
+          unanswered framing once reader.reading _ (λ q is. none_is q (waits q (ap (λ (r : ReplyReaderValue). r.reading) (sym (same refl)) ∙ is)))
+          (subst (λ f. HasReadReplyTo f reader.reading (bytes ++ piece) None) framed read.reads);
+    })
+    (λ w. absurd (none_is w.0 (waits w.0 w.1)))
+    all
+takes_in framing once stay bytes piece n pushed reader (Some q) pushed_is all waits same after h =
+    let framed : reader.framing ≡ framing = ap (λ (r : ReplyReaderValue). r.framing) after ∙ pushed_is in
+    let cut = reply_cut framing reader.reading _ q (subst (λ f. HasReadReplyTo f reader.reading (bytes ++ take n piece) (Some q)) framed h.reads) in
     let whole : (bytes ++ take n piece) ++ drop n piece ≡ bytes ++ piece = append_assoc bytes (take n piece) (drop n piece) ∙ ap (λ xs. bytes ++ xs) (take-append-drop n piece) in
-    (cut.0 ++ drop n piece, subst (λ text. IsCut reply_kind text (Complete q (cut.0 ++ drop n piece))) whole (stay (bytes ++ take n piece) (drop n piece) q cut.0 cut.1))
+    (cut.0 ++ drop n piece, subst (λ text. IsCut (reply_kind framing) text (Complete q (cut.0 ++ drop n piece))) whole (stay (bytes ++ take n piece) (drop n piece) q cut.0 cut.1))
 
 -- a reader that has read no whole reply tells why none comes
-pub lost_by : (reading : ReplyReading) (text : List ℕ) → HasReadReplyTo reading text None → IsLostBy text (loss_in (state_of_reply reading))
-lost_by (Partial left) text h = tt
-lost_by (Waiting q) text h = tt
-lost_by (Stopped f) text h = h.1
-lost_by Done text h = tt
+pub lost_by : (framing : Framing) (reader : ReplyReaderValue) (text : List ℕ) → IsReading framing reader text → IsLostBy framing text (loss_in (state_of_reply reader.reading))
+lost_by framing reader text h = by_reading reader.reading (subst (λ f. HasReadReplyTo f reader.reading text None) h.framing_is h.reads.reads)
+  where
+    by_reading : (reading : ReplyReading) → HasReadReplyTo framing reading text None → IsLostBy framing text (loss_in (state_of_reply reading))
+    by_reading (Partial left) x = tt
+    by_reading (Decoding chunks) x = tt
+    by_reading (Waiting q) x = tt
+    by_reading (Stopped f) x = x.1
+    by_reading Done x = tt

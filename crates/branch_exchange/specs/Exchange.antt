@@ -3,6 +3,7 @@ use Rattle.std.specs.Prelude.{◌≡◌, ℕ, List, [], Option, Some, None, ⊤}
 use Rattle.http_pieces.specs.Cut.{Complete, IsCut, Refused}
 use Rattle.http_pieces.specs.ReplyHead.{reply_kind}
 use Rattle.http_pieces.specs.ReplyReader.{HasReadReply, ReplyReaderValue}
+use Rattle.http_pieces.specs.declared.framing.Framing.{Framing}
 use Rattle.http_pieces.specs.declared.reply.HttpReply.{HttpReply}
 use Rattle.http_pieces.specs.declared.reply_state.ReplyState.{ReplyState}
 use Rattle.http_pieces.specs.declared.reply_state.ReplyState.TheVariants as state
@@ -19,19 +20,29 @@ pub record ExchangeValue : Type 0 where
 abbrev pub exchange_value : List ℕ → ReplyReaderValue → ExchangeValue
 exchange_value left replies = record { left = left; replies = replies }
 
--- the text begins with this reply
-abbrev pub BeginsWithReply : List ℕ → HttpReply → Type 0
-BeginsWithReply text reply = (rest : List ℕ) × IsCut reply_kind text (Complete reply rest)
+-- the text begins with this reply, whose body may be framed so
+abbrev pub BeginsWithReply : Framing → List ℕ → HttpReply → Type 0
+BeginsWithReply framing text reply = (rest : List ℕ) × IsCut (reply_kind framing) text (Complete reply rest)
+
+-- the text does not begin with a whole reply
+abbrev pub HasNoReply : Framing → List ℕ → Type 0
+HasNoReply framing text = (reply : HttpReply) → ¬ (BeginsWithReply framing text reply)
+
+-- a reader of replies that are framed so has read this text, which has no whole reply
+pub record IsReading (framing : Framing) (reader : ReplyReaderValue) (text : List ℕ) : Type 0 where
+  pub framing_is : reader.framing ≡ framing
+  pub reads : HasReadReply reader text None
+  pub unanswered : HasNoReply framing text
 
 -- the text has no whole reply yet and was read by this reader, or begins with the reply that is given
-abbrev pub TakesIn : ReplyReaderValue → List ℕ → Option HttpReply → Type 0
-TakesIn reader text None = HasReadReply reader text None
-TakesIn reader text (Some reply) = BeginsWithReply text reply
+abbrev pub TakesIn : Framing → ReplyReaderValue → List ℕ → Option HttpReply → Type 0
+TakesIn framing reader text None = IsReading framing reader text
+TakesIn framing reader text (Some reply) = BeginsWithReply framing text reply
 
 -- a reply is refused only where the text is
-abbrev pub IsLostBy : List ℕ → Loss → Type 0
-IsLostBy text (loss.Refused fault) = IsCut reply_kind text (Refused fault)
-IsLostBy text _ = ⊤
+abbrev pub IsLostBy : Framing → List ℕ → Loss → Type 0
+IsLostBy framing text (loss.Refused fault) = IsCut (reply_kind framing) text (Refused fault)
+IsLostBy framing text _ = ⊤
 
 -- why no reply comes of a reader in this state
 abbrev pub loss_in : ReplyState → Loss
@@ -40,9 +51,10 @@ loss_in (state.Refused fault) = loss.Refused fault
 loss_in state.Complete = loss.End
 loss_in state.Ended = loss.End
 
--- The text has no whole reply yet; or it begins with the reply that is given, and nothing was left to be written; or none will come.
-abbrev pub ComesTo : List ℕ → ReplyReaderValue → List ℕ → Option ExchangeEnd → Type 0
-ComesTo left reader text None = HasReadReply reader text None
-ComesTo left reader text (Some (Reply reply)) = BeginsWithReply text reply × (left ≡ [])
-ComesTo left reader text (Some (Lost cause)) = IsLostBy text cause
-ComesTo left reader text (Some NoMemory) = ⊤
+-- The text has no whole reply yet; or it begins with the reply that is given, and nothing was left to be written; or none will come: one
+-- that is there is lost only where some was left.
+abbrev pub ComesTo : Framing → List ℕ → ReplyReaderValue → List ℕ → Option ExchangeEnd → Type 0
+ComesTo framing left reader text None = IsReading framing reader text
+ComesTo framing left reader text (Some (Reply reply)) = BeginsWithReply framing text reply × (left ≡ [])
+ComesTo framing left reader text (Some (Lost cause)) = IsLostBy framing text cause × (left ≡ [] → HasNoReply framing text)
+ComesTo framing left reader text (Some NoMemory) = ⊤

@@ -1,10 +1,10 @@
 ghost use Rattle.std.specs.Prelude.{◌≡◌, ◌++◌, ◌≤◌, [], ℕ, List, Some, None, IsTrue, IfOk, ◌↔◌, drop, length};
-ghost use Rattle.http_pieces.specs.ReplyReader.{HasReadReply};
-ghost use Rattle.branch_exchange.specs.Exchange.{ComesTo, ExchangeValue, TakesIn, exchange_value, loss_in};
+ghost use Rattle.http_pieces.specs.declared.framing.Framing.{Framing};
+ghost use Rattle.branch_exchange.specs.Exchange.{ComesTo, ExchangeValue, IsReading, TakesIn, exchange_value, loss_in};
 
 use crate::exchange_end::{ExchangeEnd, Loss};
 use http_pieces::laws::reply_cut_law;
-use http_pieces::{Bytes, HttpReply, ReplyReader, ReplyState};
+use http_pieces::{Bytes, Framing, HttpReply, ReplyReader, ReplyState};
 use std::alloc::{AllocError, Global};
 use std::marker::Model;
 use wires::Outbox;
@@ -29,14 +29,16 @@ impl Model for Exchange {
 }
 
 impl Exchange {
-    /// The whole request is to be written, and nothing was read. The reply is kept on this allocator.
-    pub fn new(alloc: Global, request: Bytes) -> Exchange
+    /// The whole request is to be written, and nothing was read. The reply, whose body may be framed so, is kept on this
+    /// allocator.
+    pub fn new(alloc: Global, framing: Framing, request: Bytes) -> Exchange
         ensures left { result.left ≡ request }
-        ensures unread { HasReadReply result.replies [] None }
+        ensures unread { IsReading framing result.replies [] }
     {
+        reply_cut_law();
         Exchange {
             request: Outbox::of(request),
-            replies: ReplyReader::new(alloc),
+            replies: ReplyReader::with_framing(alloc, framing),
             reads: 0,
         }
     }
@@ -69,8 +71,8 @@ impl Exchange {
     pub fn received(&mut self, piece: &[u8]) -> Option<ExchangeEnd>
         ensures left { self.new.left ≡ self.old.left }
         // Whatever was read before.
-        ensures comes { (bytes : List ℕ) → HasReadReply self.old.replies bytes None
-            → ComesTo self.old.left self.new.replies (bytes ++ piece.now) result }
+        ensures comes { (framing : Framing) (bytes : List ℕ) → IsReading framing self.old.replies bytes
+            → ComesTo framing self.old.left self.new.replies (bytes ++ piece.now) result }
     {
         match take_in(&mut self.replies, piece) {
             Ok(Some(reply)) if self.is_sent() => Some(ExchangeEnd::Reply(reply)),
@@ -93,8 +95,8 @@ impl Exchange {
     /// A piece more was read. None where the reply may become whole.
     fn go_on(&mut self) -> Option<ExchangeEnd>
         ensures same { self.new ≡ self.old }
-        ensures comes { (bytes : List ℕ) → HasReadReply self.old.replies bytes None
-            → ComesTo self.old.left self.new.replies bytes result }
+        ensures comes { (framing : Framing) (bytes : List ℕ) → IsReading framing self.old.replies bytes
+            → ComesTo framing self.old.left self.new.replies bytes result }
     {
         self.reads = self.reads.saturating_add(1);
         let state = self.replies.state();
@@ -118,8 +120,8 @@ fn loss_in(state: ReplyState) -> Loss
 
 /// Takes a piece of the input, and gives the reply once it is whole. What follows it is dropped.
 fn take_in(replies: &mut ReplyReader, piece: &[u8]) -> Result<Option<HttpReply>, AllocError>
-    ensures { (bytes : List ℕ) → HasReadReply replies.old bytes None
-        → IfOk result (λ reply. TakesIn replies.new (bytes ++ piece.now) reply) }
+    ensures { (framing : Framing) (bytes : List ℕ) → IsReading framing replies.old bytes
+        → IfOk result (λ reply. TakesIn framing replies.new (bytes ++ piece.now) reply) }
 {
     reply_cut_law();
     let _taken = replies.push(piece)?;

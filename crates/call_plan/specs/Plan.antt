@@ -5,6 +5,7 @@ use Rattle.http_pieces.specs.declared.largest.TheConstants.{MAX_DECIMAL}
 use Rattle.call_plan.specs.declared.branch.Branch.{Branch}
 use Rattle.call_plan.specs.declared.error.PlanError.{PlanError}
 use Rattle.call_plan.specs.declared.error.PlanError.TheVariants.{NotAPlan, BadName, NoBranch, TooManyBranches, ZeroLimit, RepeatedName}
+use Rattle.call_plan.specs.Pass.{may_pass}
 use Rattle.call_plan.specs.Rules.{is_name, is_address, is_path}
 
 -- What a plan says: its path, how many branches may be out at a time, the milliseconds that a call may take, and its
@@ -33,9 +34,14 @@ is_branch_timeout (Some ms) = nat_le 1 ms && nat_le ms MAX_DECIMAL
 abbrev pub has_time : Branch → Bool
 has_time b = is_branch_timeout b.timeout_ms
 
--- the paths and addresses are lawful, and the timeouts are in their ranges
+-- fields of the names that the branch has may be passed on
+abbrev pub has_pass : Branch → Bool
+has_pass b = may_pass b.pass
+
+-- the paths, the addresses and the names of fields are lawful, and the timeouts are in their ranges
 abbrev pub is_well_formed : List ℕ → Option ℕ → List Branch → Bool
-is_well_formed path timeout branches = is_path path && is_timeout timeout && list_all has_target branches && list_all has_time branches
+is_well_formed path timeout branches =
+    is_path path && is_timeout timeout && list_all has_target branches && list_all has_time branches && list_all has_pass branches
 
 -- the timeout of the branch of that number, in milliseconds
 abbrev pub time_of : PlanRecord → ℕ → Option ℕ

@@ -2,7 +2,7 @@
 use Rattle.std.specs.Prelude.{◌≡◌, ◌≢◌, ℕ, MatchResult, List, [], ◌∷◌, ◌++◌, codes, nat_le, if◌then◌else◌, Option, Some, None, option_map, option_and_then, Result, Ok, Err}
 use Rattle.std.specs.Option.{option_map_or, option_or}
 use Rattle.serde_json.specs.Data.{Data, Items, no_items, item}
-use Rattle.serde_json.specs.Find.{get, as_number, as_u64, as_array}
+use Rattle.serde_json.specs.Find.{get, as_number, as_u64, as_array, as_str}
 use Rattle.json_values.specs.Json.{json_of, text_at}
 use Rattle.http_pieces.specs.declared.largest.TheConstants.{MAX_DECIMAL}
 use Rattle.call_plan.specs.declared.branch.Branch.{Branch}
@@ -48,12 +48,20 @@ unfoldable pub branch_timeout_of : Data → Option (Option ℕ)
 branch_timeout_of d =
     option_map_or (λ ms. option_map Some (option_and_then (at_least 1) (whole_number MAX_DECIMAL ms))) (get (codes "timeout_ms") d) (Some None)
 
--- a branch is an object with the texts `name`, `address` and `path`, and `timeout_ms` if it is there
+-- the texts of an array
+unfoldable pub texts_of : Data → Option (List (List ℕ))
+texts_of d = option_and_then (each_of as_str) (as_array d)
+
+-- the names of the fields that a branch passes on, or none where the key is absent
+unfoldable pub pass_of : Data → Option (List (List ℕ))
+pass_of d = option_map_or texts_of (get (codes "pass") d) (Some [])
+
+-- a branch is an object with the texts `name`, `address` and `path`, and `timeout_ms` and `pass` if they are there
 unfoldable pub branch_of : Data → Option Branch
 branch_of d =
-    option_and_then (λ name. option_and_then (λ address. option_and_then (λ path. option_map (λ timeout.
-    record { name = name; address = address; path = path; timeout_ms = timeout })
-    (branch_timeout_of d)) (text_at (codes "path") d)) (text_at (codes "address") d)) (text_at (codes "name") d)
+    option_and_then (λ name. option_and_then (λ address. option_and_then (λ path. option_and_then (λ timeout. option_map (λ pass.
+    record { name = name; address = address; path = path; timeout_ms = timeout; pass = pass })
+    (pass_of d)) (branch_timeout_of d)) (text_at (codes "path") d)) (text_at (codes "address") d)) (text_at (codes "name") d)
 
 -- the branches of the array at `branches`
 unfoldable pub branches_of : Data → Option (List Branch)

@@ -1,3 +1,4 @@
+use crate::field_names::FieldNames;
 use http_pieces::Text;
 
 /// One request of a plan: who is asked, and under which name the answer stands in the joined reply.
@@ -12,4 +13,7 @@ pub struct Branch {
     /// How long the branch may take from its start, in milliseconds, 1 to 9,999,999,999; without it, as long as its
     /// call.
     pub timeout_ms: Option<u64>,
+    /// The names of the fields of a call's request that the backend is sent too: at most 16 tokens of 1 to 64 bytes,
+    /// each once, and none that is kept back.
+    pub pass: FieldNames,
 }

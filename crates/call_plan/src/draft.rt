@@ -1,13 +1,15 @@
 //! The plans of a plan file as their JSON has them: of the right shape, and not yet judged.
 ghost use Rattle.std.specs.Prelude.{◌≡◌, ◌≤◌, IfOk, IfSome, option_map};
 ghost use Rattle.std.specs.Result.{result_err};
+ghost use Rattle.serde_json.specs.Find.{as_str};
 ghost use Rattle.serde_json.specs.View.{view, items_view};
 ghost use Rattle.call_plan.specs.Plan.{plan_fault};
 ghost use Rattle.json_values.specs.Json.{text_at};
-ghost use Rattle.call_plan.specs.PlanFile.{array_at, whole_number, limit_of, timeout_of, at_least, branch_timeout_of, branch_of, branches_of, plan_of, entries_of, Reads};
+ghost use Rattle.call_plan.specs.PlanFile.{array_at, whole_number, limit_of, timeout_of, at_least, branch_timeout_of, texts_of, pass_of, branch_of, branches_of, plan_of, entries_of, Reads};
 
 use crate::branch::Branch;
 use crate::error::PlanError;
+use crate::field_names::FieldNames;
 use crate::plan::Plan;
 use http_pieces::{MAX_DECIMAL, Text};
 use json_values::text_at;
@@ -96,12 +98,42 @@ fn read_branch(alloc: Global, entry: &Value) -> Result<Branch, PlanError>
     let address = read_text(alloc, entry, "address")?;
     let path = read_text(alloc, entry, "path")?;
     let timeout_ms = branch_timeout_of(entry).ok_or(PlanError::NotAPlan)?;
+    let pass = read_pass(alloc, entry)?;
     Ok(Branch {
         name,
         address,
         path,
         timeout_ms,
+        pass,
     })
+}
+
+fn read_pass(alloc: Global, entry: &Value) -> Result<FieldNames, PlanError>
+    ensures { Reads (λ p. p) (pass_of (view entry.now)) result }
+{
+    match entry.get("pass") {
+        None => Ok(FieldNames::from_vec(Vec::new(alloc))),
+        Some(value) => Ok(FieldNames::from_vec(read_texts(alloc, value)?)),
+    }
+}
+
+// The texts of an array.
+fn read_texts(alloc: Global, value: &Value) -> Result<Vec<Text>, PlanError>
+    ensures { Reads (λ v. v.items) (texts_of (view value.now)) result }
+{
+    let entries = value.as_array().ok_or(PlanError::NotAPlan)?;
+    let mut texts = Vec::new(alloc);
+    for entry in entries {
+        texts.push(text_of(alloc, entry)?)?;
+    }
+    Ok(texts)
+}
+
+fn text_of(alloc: Global, value: &Value) -> Result<Text, PlanError>
+    ensures { Reads (λ t. t) (as_str (view value.now)) result }
+{
+    let text = value.as_str().ok_or(PlanError::NotAPlan)?;
+    Ok(Text::from_str(alloc, text)?)
 }
 
 fn read_text(alloc: Global, entry: &Value, key: &str) -> Result<Text, PlanError>

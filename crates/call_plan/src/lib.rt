@@ -7,6 +7,8 @@
 mod branch;
 mod draft;
 mod error;
+mod field_names;
+mod pass;
 mod plan;
 mod plans;
 mod read;
@@ -14,6 +16,8 @@ mod rules;
 
 pub use branch::Branch;
 pub use error::PlanError;
+pub use field_names::FieldNames;
+pub use pass::{is_field_name, is_kept_back};
 pub use plan::Plan;
 pub use plans::Plans;
 pub use read::{plans_of, read_plans};

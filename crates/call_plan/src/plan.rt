@@ -2,10 +2,11 @@ ghost use Rattle.std.specs.Prelude.{◌≡◌, ◌≤◌, ◌++◌, length, IfOk
 ghost use Rattle.http_pieces.specs.declared.largest.TheConstants.{MAX_DECIMAL};
 ghost use Rattle.std.specs.List.{list_all, list_any};
 ghost use Rattle.std.specs.Result.{result_err};
-ghost use Rattle.call_plan.specs.Plan.{IsLawful, has_target, has_time, has_name, is_well_formed, names, has_repeat, plan_fault, time_of, member_text, join_text};
+ghost use Rattle.call_plan.specs.Plan.{IsLawful, has_pass, has_target, has_time, has_name, is_well_formed, names, has_repeat, plan_fault, time_of, member_text, join_text};
 
 use crate::branch::Branch;
 use crate::error::PlanError;
+use crate::pass::may_pass;
 use crate::rules;
 use http_pieces::{Bytes, MAX_DECIMAL, Text};
 use std::alloc::{AllocError, Global};
@@ -170,6 +171,7 @@ fn is_well_formed(path: &str, timeout_ms: Option<u64>, branches: &[Branch]) -> b
         && timeout_ms.is_none_or(|ms| ms <= MAX_DECIMAL)
         && have_targets(branches)
         && have_times(branches)
+        && have_pass(branches)
 }
 
 fn have_times(branches: &[Branch]) -> bool
@@ -184,6 +186,14 @@ fn has_time(branch: &Branch) -> bool
     branch
         .timeout_ms
         .is_none_or(|ms| 1 <= ms && ms <= MAX_DECIMAL)
+}
+
+fn have_pass(branches: &[Branch]) -> bool
+    ensures { result ≡ list_all has_pass branches.now }
+{
+    branches
+        .iter()
+        .all(|branch| may_pass(branch.pass.as_slice()))
 }
 
 fn have_targets(branches: &[Branch]) -> bool

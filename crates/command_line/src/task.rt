@@ -85,6 +85,8 @@ pub struct Service {
     pub admin: Option<Admin>,
     /// The address for those who watch alone, as it was given, if there is to be one.
     pub ready: Option<Text>,
+    /// Whether replies of backends may come in chunks (RFC 9112, section 7.1).
+    pub chunked: bool,
 }
 
 /// What is told on standard error.
@@ -144,7 +146,8 @@ fn serve_command<'a>(alloc: Global) -> Result<Command<'a>, AllocError> {
         .arg(option(alloc, "admin"))?
         .arg(number(alloc, "drain-after"))?
         .arg(number(alloc, "grace"))?
-        .arg(option(alloc, "ready"))
+        .arg(option(alloc, "ready"))?
+        .arg(option(alloc, "chunked").action(ArgAction::SetTrue))
 }
 
 fn check_command<'a>(alloc: Global) -> Result<Command<'a>, AllocError> {
@@ -207,6 +210,7 @@ fn service_of(alloc: Global, options: &ArgMatches<'_>) -> Result<Task, Fault>
         log: log_of(options)?,
         admin: admin_of(alloc, options)?,
         ready: text_at(alloc, options, "ready")?,
+        chunked: options.get_flag("chunked"),
     }))
 }
 

@@ -1,9 +1,10 @@
 -- Field lines as the grammar of HTTP/1.1 has them.
-use Rattle.std.proofs.Common.{◌≡◌, ℕ, Bool, true, false, ◌&&◌, List, [], ◌∷◌, map, reverse, length, refl, ap, append_assoc, arith, nat_lt, ◌≤◌}
+use Rattle.std.proofs.Common.{◌≡◌, ℕ, Bool, true, false, ◌&&◌, List, [], ◌∷◌, ◌++◌, map, reverse, length, refl, ap, append_assoc, arith, nat_lt, ◌≤◌}
 use Rattle.std.proofs.lemmas.Bool.Decides.{nat_tests}
-use Rattle.std.proofs.lemmas.List.Elements.{All-map}
+use Rattle.std.proofs.lemmas.List.{map-append}
+use Rattle.std.proofs.lemmas.List.Elements.{All-append, All-cons, All-head, All-map, All-tail}
 use Rattle.std.proofs.lemmas.List.Sums.{AllPass-from_list_all, list_all-from_AllPass}
-use Rattle.std.specs.Prelude.{All}
+use Rattle.std.specs.Prelude.{All, IsTrue}
 use Rattle.std.proofs.lemmas.Str.Parse.{digit_from_value}
 use Rattle.std.specs.Str.Parse.{AllDigits}
 use Rattle.std.specs.List.{list_all, flat_map}
@@ -13,6 +14,7 @@ use Rattle.httparse.specs.Spans.{name_and_value}
 use Rattle.http_pieces.specs.Fields.{NamedValue}
 use Rattle.connect_codec.specs.Headers.{is_visible}
 use Rattle.connect_codec.specs.Message.{field_line}
+use Rattle.connect_codec.specs.ReadBack.{IsFound}
 
 -- ---- bytes that can be seen
 
@@ -97,6 +99,29 @@ all_values [] sound = refl
 all_values (f ∷ fields) sound =
     let h = both_true (is_sound f) (list_all is_sound fields) sound in
     rw (sound_value f h.0, all_values fields h.1) refl
+
+-- ---- fields that were found in a request
+
+found_field : (f : NamedValue) → IsFound f → IsField (as_field f)
+found_field f found = record { name = found.name; raw = All-cons (λ b. IsTrue (is_value_byte b)) 32 f.1 refl found.value }
+
+pub found_fields : (fields : List NamedValue) → All IsFound fields → All IsField (map as_field fields)
+found_fields fields found = All-map IsField as_field fields (λ k d lt. found_field _ (found k d lt))
+
+pub found_values : (fields : List NamedValue) → All IsFound fields → map name_and_value (map as_field fields) ≡ fields
+found_values [] found = refl
+found_values (f ∷ fields) found =
+    let first = All-head IsFound f fields found in
+    rw (trim_ows_space f.1 first.front first.back, found_values fields (All-tail IsFound f fields found)) refl
+
+-- ---- two lists of fields
+
+pub both_fields : (fields more : List NamedValue) → All IsField (map as_field fields) → All IsField (map as_field more) → All IsField (map as_field (fields ++ more))
+both_fields fields more a b = rw (map-append as_field fields more) (All-append IsField (map as_field fields) (map as_field more) a b)
+
+pub both_values : (fields more : List NamedValue) → map name_and_value (map as_field fields) ≡ fields → map name_and_value (map as_field more) ≡ more
+    → map name_and_value (map as_field (fields ++ more)) ≡ fields ++ more
+both_values fields more a b = rw (map-append as_field fields more, map-append name_and_value (map as_field fields) (map as_field more), a, b) refl
 
 pub print_fields : (fields : List NamedValue) → flat_map print_field (map as_field fields) ≡ flat_map field_line fields
 print_fields [] = refl

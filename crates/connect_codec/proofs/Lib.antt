@@ -5,3 +5,4 @@ pub mod MessageLemmas
 pub mod FieldLineLemmas
 pub mod ReadBackLemmas
 pub mod TimeoutLemmas
+mod Rows

@@ -8,7 +8,7 @@ use Rattle.std.proofs.lemmas.List.{append-nil}
 use Rattle.std.specs.List.{flat_map}
 use Rattle.http_pieces.specs.Fields.{NamedValue}
 use Rattle.timeout_header.specs.Timeout.{timeout_text}
-use Rattle.connect_codec.specs.BranchRequest.{BranchCall, request_line, branch_fields, branch_request}
+use Rattle.connect_codec.specs.BranchRequest.{BranchCall, request_line, first_fields, branch_fields, branch_request}
 use Rattle.connect_codec.specs.Message.{crlf, field_line, message_bytes, field_if, field_of}
 use Rattle.connect_codec.specs.Reply.{phrase_of, status_line}
 
@@ -80,28 +80,36 @@ reply_ends status document body last start typed allowed sized closed e0 e1 e2 e
 
 -- ---- a branch request
 
-pub branch_request_ends : (call : BranchCall) (start host typed sized version timed named closed : List ℕ) → start ≡ request_line call.path ++ crlf
+pub first_ends : (call : BranchCall) (start host typed sized version timed named : List ℕ) → start ≡ request_line call.path ++ crlf
     → host ≡ start ++ field_line (codes "Host", call.address)
     → typed ≡ host ++ field_line (codes "Content-Type", codes "application/json")
     → sized ≡ typed ++ field_line (codes "Content-Length", decimal (length call.body))
     → version ≡ sized ++ field_line (codes "Connect-Protocol-Version", codes "1")
     → timed ≡ version ++ lines (field_of (codes "Connect-Timeout-Ms") (option_map timeout_text call.remaining))
     → named ≡ timed ++ lines (field_of (codes "X-Request-Id") call.request_id)
-    → closed ≡ named ++ field_line (codes "Connection", codes "close")
-    → closed ++ crlf ++ call.body ≡ branch_request call
-unfolding branch_request
-branch_request_ends call start host typed sized version timed named closed e0 e1 e2 e3 e4 e5 e6 e7 =
+    → named ≡ (request_line call.path ++ crlf) ++ lines (first_fields call)
+first_ends call start host typed sized version timed named e0 e1 e2 e3 e4 e5 e6 =
     let at : NamedValue = (codes "Host", call.address) in
     let kind : NamedValue = (codes "Content-Type", codes "application/json") in
     let len : NamedValue = (codes "Content-Length", decimal (length call.body)) in
     let protocol : NamedValue = (codes "Connect-Protocol-Version", codes "1") in
     let time = field_of (codes "Connect-Timeout-Ms") (option_map timeout_text call.remaining) in
     let id = field_of (codes "X-Request-Id") call.request_id in
-    let close : NamedValue = (codes "Connection", codes "close") in
     let two = lines_grow start host typed (at ∷ []) (kind ∷ []) (one_line start host at e1) (one_line host typed kind e2) in
     let three = lines_grow start typed sized (at ∷ kind ∷ []) (len ∷ []) two (one_line typed sized len e3) in
     let four = lines_grow start sized version (at ∷ kind ∷ len ∷ []) (protocol ∷ []) three (one_line sized version protocol e4) in
     let five = lines_grow start version timed (at ∷ kind ∷ len ∷ protocol ∷ []) time four e5 in
     let six = lines_grow start timed named (at ∷ kind ∷ len ∷ protocol ∷ [] ++ time) id five e6 in
-    let seven = lines_grow start named closed (at ∷ kind ∷ len ∷ protocol ∷ [] ++ time ++ id) (close ∷ []) six (one_line named closed close e7) in
-    message_ends (request_line call.path) closed call.body (branch_fields call) (seven ∙ ap (λ xs. xs ++ lines (branch_fields call)) e0)
+    six ∙ ap (λ xs. xs ++ lines (first_fields call)) e0
+
+pub branch_request_ends : (call : BranchCall) (first more closed : List ℕ) → first ≡ (request_line call.path ++ crlf) ++ lines (first_fields call)
+    → more ≡ first ++ lines call.passed
+    → closed ≡ more ++ field_line (codes "Connection", codes "close")
+    → closed ++ crlf ++ call.body ≡ branch_request call
+unfolding branch_request
+branch_request_ends call first more closed e0 e1 e2 =
+    let start = request_line call.path ++ crlf in
+    let close : NamedValue = (codes "Connection", codes "close") in
+    let two = lines_grow start first more (first_fields call) call.passed e0 e1 in
+    let three = lines_grow start more closed (first_fields call ++ call.passed) (close ∷ []) two (one_line more closed close e2) in
+    message_ends (request_line call.path) closed call.body (branch_fields call) three

@@ -1,6 +1,6 @@
 -- The messages of this crate, read back.
 use Rattle.std.proofs.Common.{◌≡◌, ℕ, ◌/◌, ◌≤◌, ◌<◌, ◌^◌, Bool, true, false, List, [], ◌∷◌, ◌++◌, map, length, refl, ◌∙◌, append_assoc, arith, lit≤, lit<, ◌==◌, get_or, codes, Some, None, cond}
-use Rattle.std.specs.Prelude.{decimal, min, Option, is_some, option_map, unwrap_or, IfSome}
+use Rattle.std.specs.Prelude.{All, decimal, min, Option, is_some, option_map, unwrap_or, IfSome}
 use Rattle.std.proofs.lemmas.Bool.Decides.{nat_tests}
 use Rattle.std.proofs.lemmas.Fmt.{decimal_is_IsNumeral, decimal_step, decimal_digit}
 use Rattle.std.proofs.lemmas.List.Folds.{list_all-append}
@@ -11,7 +11,8 @@ use Rattle.std.specs.Char.{is_ascii_digit}
 use Rattle.std.specs.List.{list_all}
 use Rattle.httparse.proofs.OnLiterals.{httparse_on_literals}
 use Rattle.httparse.proofs.GrammarLemmas.{print_response-append, print_request-append, response_unique, request_unique}
-use Rattle.httparse.specs.Grammar.{crlf, is_value_byte, ResponseHead, IsResponseHead, print_response, ReadsResponse, RequestHead, IsRequestHead, print_request, ReadsRequest, is_uri_byte, is_token, AllPass}
+use Rattle.httparse.specs.Grammar.{crlf, IsField, is_value_byte, ResponseHead, IsResponseHead, print_response, ReadsResponse, RequestHead, IsRequestHead, print_request, ReadsRequest, is_uri_byte, is_token, AllPass}
+use Rattle.httparse.specs.Spans.{name_and_value}
 use Rattle.http_pieces.specs.Fields.{NamedValue, values_of, same_without_case}
 use Rattle.timeout_header.specs.Timeout.{timeout_text}
 use Rattle.http_pieces.specs.declared.largest.TheConstants.{MAX_DECIMAL}
@@ -21,10 +22,10 @@ use Rattle.connect_codec.specs.Reply.{phrases, phrase_in, phrase_of, status_line
 use Rattle.error_document.specs.Codes.{code_status}
 use Rattle.error_document.specs.declared.code.Code.{Code}
 use Rattle.error_document.specs.declared.code.Code.TheVariants as code
-use Rattle.connect_codec.specs.ReadBack.{IsHeadOfReply, ReadsAsReply, Frames, IsHeadOfCall, IsSendable, ReadsAsCall}
-use Rattle.connect_codec.specs.BranchRequest.{BranchCall, request_line, branch_fields, branch_request}
+use Rattle.connect_codec.specs.ReadBack.{IsHeadOfReply, ReadsAsReply, Frames, IsHeadOfCall, IsSendable, NoneNamed, ReadsAsCall}
+use Rattle.connect_codec.specs.BranchRequest.{BranchCall, request_line, first_fields, branch_fields, branch_request}
 use Rattle.connect_codec.proofs.MessageLemmas.{fields_by}
-use Rattle.connect_codec.proofs.FieldLineLemmas.{both_true, sound_name, digits_pass, is_sound, as_field, all_fields, all_values, print_fields}
+use Rattle.connect_codec.proofs.FieldLineLemmas.{both_true, sound_name, digits_pass, is_sound, as_field, all_fields, all_values, found_fields, found_values, both_fields, both_values, print_fields}
 
 -- ---- statuses
 
@@ -226,14 +227,14 @@ visible_uri b seen = grind (arith, nat_tests)
 visible_small : (b : ℕ) → is_visible b ≡ true → b < 128
 visible_small b seen = grind (arith, nat_tests)
 
-pub is_request_head : (path : List ℕ) (fields : List NamedValue) → 0 < length path → AllPass is_visible path → list_all is_sound fields ≡ true → IsRequestHead (request_of path fields)
+pub is_request_head : (path : List ℕ) (fields : List NamedValue) → 0 < length path → AllPass is_visible path → All IsField (map as_field fields) → IsRequestHead (request_of path fields)
 unfolding httparse_on_literals
 is_request_head path fields some seen sound = record {
   method = sound_name (codes "POST") refl;
   target = (some, λ k d lt. visible_uri (get_or path k d) (seen k d lt));
   target_text = IsUtf8-from_ascii path (IsAscii-from_all path (λ k d lt. visible_small (get_or path k d) (seen k d lt)));
   minor = lit≤ tt;
-  fields = all_fields fields sound;
+  fields = sound;
 }
 
 -- ---- the fields of a branch request
@@ -246,65 +247,82 @@ timeout_seen : (remaining : Option ℕ) → IfSome (option_map timeout_text rema
 timeout_seen None = tt
 timeout_seen (Some n) = AllPass-from_list_all is_visible (decimal (min n MAX_DECIMAL)) (digits_seen (min n MAX_DECIMAL) (omega arith))
 
-pub branch_fields_sound : (call : BranchCall) → IsSendable call → list_all is_sound (branch_fields call) ≡ true
+first_fields_sound : (call : BranchCall) → IsSendable call → list_all is_sound (first_fields call) ≡ true
 unfolding httparse_on_literals
-branch_fields_sound call sendable =
+first_fields_sound call sendable =
     let front : List NamedValue =
     (codes "Host", call.address) ∷ (codes "Content-Type", codes "application/json") ∷ (codes "Content-Length", decimal (length call.body)) ∷ (codes "Connect-Protocol-Version", codes "1") ∷ [] in
     let time = field_of (codes "Connect-Timeout-Ms") (option_map timeout_text call.remaining) in
     let id = field_of (codes "X-Request-Id") call.request_id in
-    all_append (front ++ time ++ id) ((codes "Connection", codes "close") ∷ [])
-    (all_append (front ++ time) id
+    all_append (front ++ time) id
     (all_append front time
     (rw (list_all-from_AllPass is_visible call.address sendable.address, digits_seen (length call.body) sendable.body) refl)
     (all_of (codes "Connect-Timeout-Ms") (option_map timeout_text call.remaining) refl (timeout_seen call.remaining)))
-    (all_of (codes "X-Request-Id") call.request_id refl sendable.request_id))
-    refl
+    (all_of (codes "X-Request-Id") call.request_id refl sendable.request_id)
+
+abbrev close : List NamedValue
+close = (codes "Connection", codes "close") ∷ []
+
+close_sound : list_all is_sound close ≡ true
+unfolding httparse_on_literals
+close_sound = refl
+
+branch_fields_are : (call : BranchCall) → IsSendable call → All IsField (map as_field (branch_fields call))
+branch_fields_are call sendable =
+    both_fields (first_fields call ++ call.passed) close
+    (both_fields (first_fields call) call.passed (all_fields (first_fields call) (first_fields_sound call sendable)) (found_fields call.passed sendable.passed))
+    (all_fields close close_sound)
+
+branch_values_are : (call : BranchCall) → IsSendable call → map name_and_value (map as_field (branch_fields call)) ≡ branch_fields call
+branch_values_are call sendable =
+    both_values (first_fields call ++ call.passed) close
+    (both_values (first_fields call) call.passed (all_values (first_fields call) (first_fields_sound call sendable)) (found_values call.passed sendable.passed))
+    (all_values close close_sound)
 
 values_of_other : (name other : List ℕ) (found : Option (List ℕ)) → same_without_case other name ≡ false → values_of name (field_of other found) ≡ []
 values_of_other name other None e = refl
 values_of_other name other (Some value) e = rw e refl
 
--- what stands behind the first four fields has none of the names that frame a message
+-- what stands behind the first four fields has none of the names that frame a message, if none that is passed on has
 behind : (name : List ℕ) (call : BranchCall) → same_without_case (codes "Connect-Timeout-Ms") name ≡ false → same_without_case (codes "X-Request-Id") name ≡ false
-    → same_without_case (codes "Connection") name ≡ false
-    → values_of name (field_of (codes "Connect-Timeout-Ms") (option_map timeout_text call.remaining) ++ field_of (codes "X-Request-Id") call.request_id ++ (codes "Connection", codes "close") ∷ []) ≡ []
-behind name call a b c =
+    → same_without_case (codes "Connection") name ≡ false → NoneNamed name call.passed
+    → values_of name (field_of (codes "Connect-Timeout-Ms") (option_map timeout_text call.remaining) ++ field_of (codes "X-Request-Id") call.request_id ++ call.passed ++ close) ≡ []
+behind name call a b c none =
     let time = field_of (codes "Connect-Timeout-Ms") (option_map timeout_text call.remaining) in
     let id = field_of (codes "X-Request-Id") call.request_id in
-    values_of_none name (time ++ id) ((codes "Connection", codes "close") ∷ [])
-    (values_of_none name time id (values_of_other name _ (option_map timeout_text call.remaining) a) (values_of_other name _ call.request_id b))
+    values_of_none name (time ++ id ++ call.passed) close
+    (values_of_none name (time ++ id) call.passed
+    (values_of_none name time id (values_of_other name _ (option_map timeout_text call.remaining) a) (values_of_other name _ call.request_id b)) none)
     (rw c refl)
 
-pub branch_framed : (call : BranchCall) → Frames (branch_fields call) (length call.body)
+pub branch_framed : (call : BranchCall) → IsSendable call → Frames (branch_fields call) (length call.body)
 unfolding same_without_case
-branch_framed call = record {
-  one_length = rw (behind (codes "Content-Length") call refl refl refl) refl;
-  no_coding = behind (codes "Transfer-Encoding") call refl refl refl;
+branch_framed call sendable = record {
+  one_length = rw (behind (codes "Content-Length") call refl refl refl sendable.no_length) refl;
+  no_coding = behind (codes "Transfer-Encoding") call refl refl refl sendable.no_coding;
 }
 
-pub branch_host : (call : BranchCall) → values_of (codes "Host") (branch_fields call) ≡ call.address ∷ []
+pub branch_host : (call : BranchCall) → IsSendable call → values_of (codes "Host") (branch_fields call) ≡ call.address ∷ []
 unfolding same_without_case
-branch_host call = rw (behind (codes "Host") call refl refl refl) refl
+branch_host call sendable = rw (behind (codes "Host") call refl refl refl sendable.no_host) refl
 
 pub call_reads_back : (call : BranchCall) (more : List ℕ) → IsSendable call → ReadsAsCall (branch_request call) call more
 unfolding branch_request
 call_reads_back call more sendable =
-    let sound = branch_fields_sound call sendable in
     let head = request_of call.path (branch_fields call) in
     let is_head : IsHeadOfCall head call = record {
       method = refl;
       target = refl;
       version = refl;
-      fields_are = all_values (branch_fields call) sound;
+      fields_are = branch_values_are call sendable;
     } in
     let reads : ReadsRequest (message_bytes (request_line call.path) (branch_fields call) call.body ++ more) head (call.body ++ more) =
-    (is_request_head call.path (branch_fields call) sendable.some_path sendable.path sound, request_bytes call.path (branch_fields call) call.body more) in
+    (is_request_head call.path (branch_fields call) sendable.some_path sendable.path (branch_fields_are call sendable), request_bytes call.path (branch_fields call) call.body more) in
     record {
       found = (head, is_head, reads);
       only = λ other rest also.
           let same = request_unique _ head other (call.body ++ more) rest reads also in
           rw (← same.0, ← same.1) (is_head, refl);
-      framed = branch_framed call;
-      one_host = branch_host call;
+      framed = branch_framed call sendable;
+      one_host = branch_host call sendable;
     }

@@ -4,28 +4,32 @@ use Rattle.http_pieces.specs.Fields.{NamedValue}
 use Rattle.timeout_header.specs.Timeout.{timeout_text}
 use Rattle.connect_codec.specs.Message.{message_bytes, field_of}
 
--- what a branch is asked: where, on which path, in how many milliseconds at most, in whose name, and what
+-- what a branch is asked: where, on which path, in how many milliseconds at most, in whose name, with which fields of the call's request, and what
 pub record BranchCall : Type 0 where
   pub address : List ℕ
   pub path : List ℕ
   pub remaining : Option ℕ
   pub request_id : Option (List ℕ)
+  pub passed : List NamedValue
   pub body : List ℕ
 
 -- request-line = method SP request-target SP HTTP-version (RFC 9112, section 3)
 abbrev pub request_line : List ℕ → List ℕ
 request_line path = codes "POST " ++ path ++ codes " HTTP/1.1"
 
--- one connection carries one branch request, so it asks for the close (RFC 9112, section 9.6)
-abbrev pub branch_fields : BranchCall → List NamedValue
-branch_fields call =
+-- the fields that each branch request begins with
+abbrev pub first_fields : BranchCall → List NamedValue
+first_fields call =
     (codes "Host", call.address) ∷
     (codes "Content-Type", codes "application/json") ∷
     (codes "Content-Length", decimal (length call.body)) ∷
     (codes "Connect-Protocol-Version", codes "1") ∷ []
     ++ field_of (codes "Connect-Timeout-Ms") (option_map timeout_text call.remaining)
     ++ field_of (codes "X-Request-Id") call.request_id
-    ++ (codes "Connection", codes "close") ∷ []
+
+-- then those that are passed on; one connection carries one branch request, so it asks for the close (RFC 9112, section 9.6)
+abbrev pub branch_fields : BranchCall → List NamedValue
+branch_fields call = first_fields call ++ call.passed ++ (codes "Connection", codes "close") ∷ []
 
 -- the bytes of the request
 unfoldable pub branch_request : BranchCall → List ℕ

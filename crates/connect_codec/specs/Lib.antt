@@ -2,6 +2,7 @@ pub mod BranchRequest
 pub mod Headers
 pub mod Message
 pub mod Outcome
+pub mod Passed
 pub mod Path
 pub mod Reply
 pub mod Verdict

@@ -1,15 +1,43 @@
-ghost use Rattle.std.specs.Prelude.{◌≡◌, IfOk};
-ghost use Rattle.connect_codec.specs.BranchRequest.{branch_request};
-ghost use Rattle.connect_codec.specs.BranchAsk.{call_of};
+ghost use Rattle.std.specs.Prelude.{◌≡◌, ◌++◌, IfOk};
+ghost use Rattle.std.specs.List.{flat_map};
+ghost use Rattle.connect_codec.specs.BranchRequest.{branch_request, first_fields, request_line};
+ghost use Rattle.connect_codec.specs.BranchAsk.{call_of, call_passing};
+ghost use Rattle.connect_codec.specs.Message.{crlf, field_line};
+ghost use Rattle.connect_codec.specs.Passed.{fields_passed};
 
 use crate::ask::BranchAsk;
 use crate::head::Head;
+use crate::passed::Passed;
 use http_pieces::Bytes;
 use std::alloc::{AllocError, Global};
 
 /// The whole request to a branch, which asks for the close of its connection.
 pub fn branch_request(alloc: Global, ask: &BranchAsk<'_>) -> Result<Bytes, AllocError>
     ensures { IfOk result (λ bytes. bytes ≡ branch_request (call_of ask.now)) }
+{
+    let mut head = first_of(alloc, ask)?;
+    head.field("Connection", b"close")?;
+    head.end(ask.body)
+}
+
+/// The same with the fields of the call's request that are passed on.
+pub fn passing_request(
+    alloc: Global,
+    ask: &BranchAsk<'_>,
+    passed: &Passed<'_>,
+) -> Result<Bytes, AllocError>
+    ensures { IfOk result (λ bytes. bytes ≡ branch_request (call_passing (fields_passed passed.now) ask.now)) }
+{
+    let mut head = first_of(alloc, ask)?;
+    head.pass_on(passed)?;
+    head.field("Connection", b"close")?;
+    head.end(ask.body)
+}
+
+/// The request line, and the fields that each request to a branch begins with.
+fn first_of(alloc: Global, ask: &BranchAsk<'_>) -> Result<Head, AllocError>
+    ensures { IfOk result (λ head. head
+        ≡ (request_line ask.now.path.now ++ crlf) ++ flat_map field_line (first_fields (call_of ask.now))) }
 {
     let mut head = Head::of_call(alloc, ask.path)?;
     head.field("Host", ask.address.as_bytes())?;
@@ -25,6 +53,5 @@ pub fn branch_request(alloc: Global, ask: &BranchAsk<'_>) -> Result<Bytes, Alloc
     if let Some(id) = ask.request_id {
         head.field("X-Request-Id", id)?;
     }
-    head.field("Connection", b"close")?;
-    head.end(ask.body)
+    Ok(head)
 }

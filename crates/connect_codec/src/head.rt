@@ -1,8 +1,11 @@
 ghost use Rattle.std.specs.Prelude.{◌≡◌, ◌++◌, ℕ, decimal, codes, IfOk, OnOk};
+ghost use Rattle.std.specs.List.{flat_map};
 ghost use Rattle.connect_codec.specs.Message.{crlf, field_line};
+ghost use Rattle.connect_codec.specs.Passed.{fields_passed};
 ghost use Rattle.connect_codec.specs.Reply.{phrase_of, status_line};
 ghost use Rattle.connect_codec.specs.BranchRequest.{request_line};
 
+use crate::passed::Passed;
 use http_pieces::Bytes;
 use itoa::Buffer;
 use std::alloc::{AllocError, Global};
@@ -55,6 +58,18 @@ impl Head {
         self.bytes.extend_from_slice(b": ")?;
         self.bytes.extend_from_slice(value)?;
         self.bytes.extend_from_slice(b"\r\n")
+    }
+
+    /// Adds the fields that are passed on.
+    pub(crate) fn pass_on(&mut self, passed: &Passed<'_>) -> Result<(), AllocError>
+        ensures { OnOk result (self.new ≡ self.old ++ flat_map field_line (fields_passed passed.now)) }
+    {
+        for (name, value) in passed.request.fields() {
+            if let Some(own) = passed.name_for(name) {
+                self.field(own, value)?;
+            }
+        }
+        Ok(())
     }
 
     /// Adds the field that gives the length of the body.

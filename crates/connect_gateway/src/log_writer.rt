@@ -5,6 +5,7 @@ use crate::loop_side::LoopSide;
 use access_log::{Standing, standing_line};
 use crossbeam_channel::{Receiver, RecvTimeoutError, Sender, unbounded};
 use gateway_core::Tally;
+use libc::STDERR_FILENO;
 use std::alloc::{AllocError, Global};
 use std::io::Eprint;
 use std::marker::Model;
@@ -110,7 +111,7 @@ impl LogWriter {
             }
             count = count.saturating_add(1);
         }
-        if rt.eprintln(lines.as_str()).is_err() {
+        if !put(rt, &mut lines) {
             self.dropped.fetch_add(count, Ordering::SeqCst);
         }
         is_all
@@ -134,8 +135,8 @@ impl LogWriter {
             sum(rt, &mut standing, side);
         }
         let time = milliseconds_since_1970(rt);
-        if let Ok(line) = standing_line(self.alloc, time, &standing) {
-            let _ = rt.eprintln(line.as_str());
+        if let Ok(mut line) = standing_line(self.alloc, time, &standing) {
+            put(rt, &mut line);
         }
     }
 }
@@ -145,6 +146,21 @@ fn add_line(lines: &mut String, next: &str) -> Result<(), AllocError> {
     lines.reserve(next.len().saturating_add(1))?;
     lines.push_str("\n")?;
     lines.push_str(next)
+}
+
+/// Writes the lines, and answers whether all could be written. They go by one write, of which a pipe takes up to 4,096
+/// bytes as a whole, so that lines of other programs that write to it stand before or behind them (POSIX, `PIPE_BUF`);
+/// what that leaves goes by as many as it needs.
+fn put<R: Eprint>(rt: &R, lines: &mut String) -> bool {
+    if add_line(lines, "").is_err() {
+        return rt.eprintln(lines.as_str()).is_ok();
+    }
+    let taken = libc::write(STDERR_FILENO, lines.as_bytes());
+    match lines.get(usize::try_from(taken).unwrap_or(0)..) {
+        Some("") => true,
+        Some(left) => rt.eprint(left).is_ok(),
+        None => false,
+    }
 }
 
 /// Adds how a loop stands.

@@ -12,6 +12,7 @@ use call_plan::Plans;
 use crossbeam_channel::Receiver;
 use gateway_core::{CallId, ConnId, Job, ReplyEntry, RequestLabel};
 use gateway_loop::{BranchEnd, Comings, EventLoop, Network, NextTurn, Ready};
+use http_pieces::Framing;
 use http_server::Log;
 use mio::event::Event;
 use mio::unix::SourceFd;
@@ -47,6 +48,8 @@ pub(crate) struct Common<M> {
     pub(crate) names: Option<Arc<ServedNames>>,
     /// What main shares with them.
     pub(crate) main: Arc<MainSide>,
+    /// How replies of backends may be framed.
+    pub(crate) framing: Framing,
 }
 
 // Clauses see nothing of it, which keeps proofs small.
@@ -97,7 +100,7 @@ impl<M: NetHost> Looping<M> {
         let main = Arc::try_clone(&common.main)?;
         Ok(Looping {
             rt: common.rt,
-            event_loop: EventLoop::new(common.alloc, plans)?,
+            event_loop: EventLoop::new(common.alloc, plans, common.framing)?,
             network,
             comings,
             mail,
@@ -298,7 +301,7 @@ impl<M: NetHost> Network<Told<Socket>> for MioNetwork<M> {
         Told::new(Socket::to_backend(&self.rt, address, length))
     }
 
-    fn watch(&mut self, wire: &Told<Socket>, token: usize, writes: bool) -> bool {
+    fn watch(&mut self, wire: &mut Told<Socket>, token: usize, writes: bool) -> bool {
         let Some(descriptor) = wire.stream().descriptor() else {
             return false;
         };
@@ -309,12 +312,15 @@ impl<M: NetHost> Network<Told<Socket>> for MioNetwork<M> {
         } else {
             reads
         };
-        // so it takes no `&mut` of a stream that notes its reads and writes
+        // so it takes no `&mut` of the socket itself, whose reads and writes its wire notes
         let mut source = SourceFd(&descriptor);
-        self.poll
-            .registry()
-            .register(&mut source, Token(token), interests)
-            .is_ok()
+        let registry = self.poll.registry();
+        let registered = registry.register(&mut source, Token(token), interests);
+        if registered.is_err() {
+            return false;
+        }
+        wire.note_watched(token, writes);
+        true
     }
 
     fn look_up(&mut self, name: &str) -> bool {

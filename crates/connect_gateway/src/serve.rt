@@ -11,7 +11,7 @@ use admin::{Drain, ServedNames};
 use call_plan::Plans;
 use command_line::{Log, Service};
 use crossbeam_channel::{Receiver, unbounded};
-use http_pieces::Text;
+use http_pieces::{Framing, Text};
 use input_files::PlanFile;
 use libc::types::rlimit;
 use libc::{RLIMIT_NOFILE, getrlimit};
@@ -82,10 +82,20 @@ fn serve_plans<M: NetHost>(
         lines: (service.log != Log::Off).then_some(lines),
         names: dealer.is_asked().then_some(plans.names),
         main: Arc::try_clone(&dealer.main)?,
+        framing: framing_of(service),
     };
     log.listens(service, plans.count);
     let most = service.connections.unwrap_or(u64::MAX);
     serve_with(common, dealer, plans.of_workers, most, writer)
+}
+
+/// How replies of backends may be framed.
+fn framing_of(service: &Service) -> Framing {
+    if service.chunked {
+        Framing::Any
+    } else {
+        Framing::Fixed
+    }
 }
 
 /// What a plan file gives to those who serve it.

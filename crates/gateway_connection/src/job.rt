@@ -1,9 +1,10 @@
 ghost use Rattle.std.specs.Prelude.{◌≡◌, ◌≤◌, ◌^◌, option_map, true, ℕ};
+ghost use Rattle.connect_codec.specs.Passed.{fields_passed};
 ghost use Rattle.gateway_model.specs.Past.{smaller};
 ghost use Rattle.gateway_theory.specs.Task.{job_at, left_at};
 
 use crate::task::Task;
-use call_plan::Branch;
+use connect_codec::Passed;
 use gateway_model::CallId;
 use std::marker::Model;
 use std::sync::Arc;
@@ -71,34 +72,25 @@ impl Job {
         self.task.asked.plan.path()
     }
 
-    /// The branch as its plan has it.
-    fn planned(&self) -> &Branch
-        ensures name { result.now.name ≡ self.now.job.branch_name }
-        ensures address { result.now.address ≡ self.now.job.address }
-        ensures path { result.now.path ≡ self.now.job.path }
-    {
-        &self.task.asked.plan.branches()[self.task.branch as usize]
-    }
-
     /// The name of the branch.
     pub fn branch_name(&self) -> &str
         ensures { result.now ≡ self.now.job.branch_name }
     {
-        self.planned().name.as_str()
+        self.task.planned().name.as_str()
     }
 
     /// The backend's address, `host:port`.
     pub fn address(&self) -> &str
         ensures { result.now ≡ self.now.job.address }
     {
-        self.planned().address.as_str()
+        self.task.planned().address.as_str()
     }
 
     /// The path to ask for.
     pub fn path(&self) -> &str
         ensures { result.now ≡ self.now.job.path }
     {
-        self.planned().path.as_str()
+        self.task.planned().path.as_str()
     }
 
     /// The body of the caller's request, to be sent on byte for byte.
@@ -115,6 +107,16 @@ impl Job {
         match &self.task.asked.request_id {
             Some(id) => Some(id.as_slice()),
             None => None,
+        }
+    }
+
+    /// The fields of the caller's request that are passed on.
+    pub fn passed(&self) -> Passed<'_>
+        ensures { fields_passed result ≡ self.now.job.passed }
+    {
+        Passed {
+            names: self.task.planned().pass.as_slice(),
+            request: &self.task.asked.request,
         }
     }
 

@@ -1,9 +1,11 @@
 ghost use Rattle.std.specs.Prelude.{◌≡◌, ◌≤◌, ◌^◌};
 ghost use Rattle.std.specs.Arc.{arc_value};
+ghost use Rattle.gateway_model.specs.Branch.{branch_at};
 ghost use Rattle.gateway_model.specs.Past.{deadline_from};
 ghost use Rattle.gateway_theory.specs.Task.{task_of};
 
 use crate::times::deadline_of;
+use call_plan::Branch;
 use gateway_model::CallId;
 use gateway_replies::ArrivedCall;
 use std::marker::Model;
@@ -31,6 +33,13 @@ impl Model for Task {
 }
 
 impl Task {
+    /// The branch as its plan has it.
+    pub(crate) fn planned(&self) -> &Branch
+        ensures { result.now ≡ branch_at self.now.asked.plan self.now.branch }
+    {
+        &self.asked.plan.branches()[self.branch as usize]
+    }
+
     /// The deadline of its own that the branch has, if it starts at this moment.
     pub(crate) fn deadline(&self, moment: u64) -> Option<u64>
         requires { moment ≤ 2 ^ 62 }

@@ -8,3 +8,4 @@ mod OpenLemmas
 mod TellLemmas
 mod DueLemmas
 mod TakenLemmas
+mod PieceParts

@@ -3,8 +3,10 @@
 #![tactic(auto)]
 
 mod broadcast;
+mod delivery;
 mod gateway;
 
+pub use delivery::deliver;
 pub use gateway::Core;
 pub use gateway_connection::Job;
 pub use gateway_model::{

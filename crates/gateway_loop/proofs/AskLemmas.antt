@@ -1,5 +1,5 @@
 -- What each step makes of the jobs that are asked for, and of those that ended.
-use Rattle.gateway_loop.proofs.Words.{◌≡◌, ◌≢◌, ◌⊎◌, ℕ, zero, suc, ◌+◌, Bool, false, cond, List, [], ◌∷◌, ◌++◌, All, map, Option, None, Some, refl, sym, ap, ◌∙◌, subst, arith, append_assoc, inl, inr, ⊎_elim, count_by, sum_by, option_map, slice_index_or, option_map_or, cases_eq, map-append, All-push, sum_by-append, sum_by-cons, Outcome, JobValue, IsPrefixOf, HandedJob, Slab, Updates, AskingValue, BeginsRequest, EndedValue, IsFair, StreamValue, ended_value, LoopValue, HasTicked, AsksFairly, AsksOn, ContinuesLoop, GivesUpStream, HasEndedSince, KeepsStream, WholeLoop, asked_at, count_asked, AskingState, asked_for, HandsNothing, Onward, Goes, whole_loop, SocketAddr, prefix-refl, prefix-trans}
+use Rattle.gateway_loop.proofs.Words.{◌≡◌, ◌≢◌, ◌⊎◌, ℕ, zero, suc, ◌+◌, Bool, false, cond, List, [], ◌∷◌, ◌++◌, All, map, Option, None, Some, refl, sym, ap, ◌∙◌, subst, arith, append_assoc, inl, inr, ⊎_elim, count_by, sum_by, option_map, slice_index_or, option_map_or, cases_eq, map-append, All-push, sum_by-append, sum_by-cons, Outcome, JobValue, IsPrefixOf, HandedJob, Slab, Updates, AskingValue, BeginsRequest, EndedValue, IsFair, StreamValue, ended_value, LoopValue, HasTicked, AsksFairly, AsksOn, ContinuesLoop, GivesUpStream, HasEndedSince, KeepsStream, WholeLoop, asked_at, count_asked, AskingState, asked_for, HandsNothing, Onward, Goes, AreFramed, whole_loop, Framing, SocketAddr, prefix-refl, prefix-trans}
 use Rattle.std.proofs.lemmas.Bool.Decides.{nat_tests}
 use Rattle.std.proofs.lemmas.List.{append-nil}
 use Rattle.gateway_loop.proofs.GrowLemmas as grow
@@ -71,10 +71,11 @@ module _ (u v w : WholeLoop) (y : AskingValue) where
       }
 
 pub continues_same : (v : WholeLoop) → ContinuesLoop v v
-continues_same v = record { side = grow.continues_same v.side; asking = λ i x is. (x, inl is, asks_same x); ended = prefix-refl v.ended }
+continues_same v = record { framing = refl; side = grow.continues_same v.side; asking = λ i x is. (x, inl is, asks_same x); ended = prefix-refl v.ended }
 
 continues_then : (u v w : WholeLoop) → ContinuesLoop u v → ContinuesLoop v w → ContinuesLoop u w
 continues_then u v w a b = record {
+  framing = b.framing ∙ a.framing;
   side = grow.continues_then u.side v.side w.side a.side b.side;
   asking = λ i x is.
       let s = a.asking i x is in
@@ -116,9 +117,10 @@ none_asked : (b : AskingValue) → None ≡ Some b → ⊥
 none_asked b e = cc
 
 -- the clients' side went on, and the exchanges are the same
-pub goes_side : (v w : WholeLoop) → Onward v.side w.side → w.asking ≡ v.asking → w.ended ≡ v.ended → Goes v w
-goes_side v w o asking ended =
+pub goes_side : (v w : WholeLoop) → w.framing ≡ v.framing → Onward v.side w.side → w.asking ≡ v.asking → w.ended ≡ v.ended → Goes v w
+goes_side v w framing o asking ended =
     onward v w record {
+      framing = framing;
       side = o.on v.side (grow.continues_same v.side);
       asking = λ i x is. (x, inl (ap (λ l. asked_at i l) asking ∙ is), asks_same x);
       ended = grow.begins_is v.ended w.ended ended;
@@ -139,10 +141,11 @@ module _ (old new : List (Option AskingState)) (i : ℕ) where
   stands_at y j put same = shown_at new j ∙ ap (λ (s : Option AskingState). show_slot s) (ap (λ (n : ℕ). slice_index_or new n None) same ∙ put.here)
 
   -- one of them went on
-  pub goes_put : (v : LoopValue) (ended : List (AskingState × Option Outcome)) (x y : AskingState) → slice_index_or old i None ≡ Some x → Put old new i (Some y)
-      → AsksOn (asked_for x) (asked_for y) → Goes (whole_loop v old ended) (whole_loop v new ended)
-  goes_put v ended x y was put on =
-      onward (whole_loop v old ended) (whole_loop v new ended) record {
+  pub goes_put : (framing : Framing) (v : LoopValue) (ended : List (AskingState × Option Outcome)) (x y : AskingState) → slice_index_or old i None ≡ Some x → Put old new i (Some y)
+      → AsksOn (asked_for x) (asked_for y) → Goes (whole_loop framing v old ended) (whole_loop framing v new ended)
+  goes_put framing v ended x y was put on =
+      onward (whole_loop framing v old ended) (whole_loop framing v new ended) record {
+        framing = refl;
         side = grow.continues_same v;
         asking = λ j z is.
             ⊎_elim
@@ -150,31 +153,33 @@ module _ (old new : List (Option AskingState)) (i : ℕ) where
             (asked_for y, inl (stands_at y j put same), subst (λ (t : AskingValue). AsksOn t (asked_for y)) (some_asked (asked_for x) z (stood_at (Some x) j z was same is)) on))
             (λ (other : j ≡ i → ⊥). (z, inl (stays_at (Some y) j z put other is), asks_same z))
             (cases_eq j i);
-        ended = prefix-refl (whole_loop v old ended).ended;
+        ended = prefix-refl (whole_loop framing v old ended).ended;
       }
 
   -- .. began
-  pub goes_begin : (v w : LoopValue) (ended : List (AskingState × Option Outcome)) (y : AskingState) → Onward v w → slice_index_or old i None ≡ None
-      → Put old new i (Some y) → Goes (whole_loop v old ended) (whole_loop w new ended)
-  goes_begin v w ended y o free put =
-      onward (whole_loop v old ended) (whole_loop w new ended) record {
+  pub goes_begin : (framing : Framing) (v w : LoopValue) (ended : List (AskingState × Option Outcome)) (y : AskingState) → Onward v w → slice_index_or old i None ≡ None
+      → Put old new i (Some y) → Goes (whole_loop framing v old ended) (whole_loop framing w new ended)
+  goes_begin framing v w ended y o free put =
+      onward (whole_loop framing v old ended) (whole_loop framing w new ended) record {
+        framing = refl;
         side = o.on v (grow.continues_same v);
         asking = λ j z is.
             ⊎_elim
             (λ (same : j ≡ i). absurd (none_asked z (stood_at None j z free same is)))
             (λ (other : j ≡ i → ⊥). (z, inl (stays_at (Some y) j z put other is), asks_same z))
             (cases_eq j i);
-        ended = prefix-refl (whole_loop v old ended).ended;
+        ended = prefix-refl (whole_loop framing v old ended).ended;
       }
 
   -- .. ended
-  pub goes_ended : (v w : LoopValue) (ended ended' : List (AskingState × Option Outcome)) (x y : AskingState) (end : Option Outcome) → Onward v w
+  pub goes_ended : (framing : Framing) (v w : LoopValue) (ended ended' : List (AskingState × Option Outcome)) (x y : AskingState) (end : Option Outcome) → Onward v w
       → slice_index_or old i None ≡ Some x → Put old new i None → ended' ≡ ended ++ (y, end) ∷ [] → AsksOn (asked_for x) (asked_for y)
-      → Goes (whole_loop v old ended) (whole_loop w new ended')
-  goes_ended v w ended ended' x y end o was put is_now on =
+      → Goes (whole_loop framing v old ended) (whole_loop framing w new ended')
+  goes_ended framing v w ended ended' x y end o was put is_now on =
       let show : AskingState × Option Outcome → EndedValue = λ (d : AskingState × Option Outcome). ended_value (asked_for d.0) d.1 in
       let more : map show ended' ≡ map show ended ++ show (y, end) ∷ [] = ap (map show) is_now ∙ map-append show ended ((y, end) ∷ []) in
-      onward (whole_loop v old ended) (whole_loop w new ended') record {
+      onward (whole_loop framing v old ended) (whole_loop framing w new ended') record {
+        framing = refl;
         side = o.on v (grow.continues_same v);
         asking = λ j z is.
             ⊎_elim
@@ -217,10 +222,10 @@ count_put p old new i o n was put = grind (arith, nat_tests, sum_put)
 -- ---- what is kept
 
 -- the exchanges are the same
-pub keeps_asking : (v w : WholeLoop) → HandsNothing v.side w.side → w.asking ≡ v.asking → w.ended ≡ v.ended → AsksFairly v → AsksFairly w
-keeps_asking v w none asking ended a = record {
+pub keeps_asking : (v w : WholeLoop) → w.framing ≡ v.framing → HandsNothing v.side w.side → w.asking ≡ v.asking → w.ended ≡ v.ended → AsksFairly v → AsksFairly w
+keeps_asking v w framing none asking ended a = record {
   results = none.no_result ∙ a.results ∙ ap (map (λ (e : EndedValue). (e.asking.job, e.outcome))) (sym ended);
-  fair = subst (All IsFair) (sym ended) a.fair;
+  fair = subst (λ (l : List EndedValue). All (IsFair w.framing) l) (sym ended) (subst (λ (f : Framing). All (IsFair f) v.ended) (sym framing) a.fair);
   begun = λ i x is. a.begun i x (ap (λ l. asked_at i l) (sym asking) ∙ is);
   jobs = λ p. ap (count_by p) none.no_job ∙ a.jobs p ∙ ap (λ l. count_by (λ (e : EndedValue). p e.asking.job) l + count_asked p v.asking) (sym ended)
       ∙ ap (λ l. count_by (λ (e : EndedValue). p e.asking.job) w.ended + count_asked p l) (sym asking);
@@ -239,89 +244,128 @@ begun_put old new i o put own before j x is =
 begun_by : (y : AskingState) → BeginsRequest (asked_for y) → (x : AskingValue) → show_slot (Some y) ≡ Some x → BeginsRequest x
 begun_by y begun x is = subst (λ (t : AskingValue). BeginsRequest t) (some_asked (asked_for y) x is) begun
 
+-- .. and the reply to each may be framed so
+framed_put : (framing : Framing) (old new : List (Option AskingState)) (i : ℕ) (o : Option AskingState) → Put old new i o
+    → ((x : AskingState) → o ≡ Some x → x.framing ≡ framing) → AreFramed framing old → AreFramed framing new
+framed_put framing old new i o put own before j x is =
+    ⊎_elim
+    (λ (same : j ≡ i). own x (sym put.here ∙ ap (λ (n : ℕ). slice_index_or new n None) (sym same) ∙ is))
+    (λ (other : j ≡ i → ⊥). before j x (sym (put.there j other) ∙ is))
+    (cases_eq j i)
+
+some_state : (a b : AskingState) → Some a ≡ Some b → a ≡ b
+some_state a b e = cc
+
+none_state : (b : AskingState) → None ≡ Some b → ⊥
+none_state b e = cc
+
+framed_by : (framing : Framing) (y : AskingState) → y.framing ≡ framing → (x : AskingState) → Some y ≡ Some x → x.framing ≡ framing
+framed_by framing y framed x is = subst (λ (t : AskingState). t.framing ≡ framing) (some_state y x is) framed
+
+-- what holds of a loop with these clients, jobs and ends
+abbrev pub Keeps : Framing → LoopValue → List (Option AskingState) → List (AskingState × Option Outcome) → Type 0
+Keeps framing v asking ended = AsksFairly (whole_loop framing v asking ended) × AreFramed framing asking
+
 -- one of them went on with its job
-pub keeps_put : (v : LoopValue) (old new : List (Option AskingState)) (ended : List (AskingState × Option Outcome)) (i : ℕ) (x y : AskingState)
-    → slice_index_or old i None ≡ Some x → y.job ≡ x.job → Put old new i (Some y) → BeginsRequest (asked_for y) → AsksFairly (whole_loop v old ended)
-    → AsksFairly (whole_loop v new ended)
-keeps_put v old new ended i x y was job put begun a = record {
-  results = a.results;
-  fair = a.fair;
-  begun = begun_put old new i (Some y) put (begun_by y begun) a.begun;
-  jobs = λ p.
-      let count = count_put p old new i (Some x) (Some y) was put in
-      let same : one_asked p (Some y) ≡ one_asked p (Some x) = ap (λ (j : HandedJob). cond (p j.job) 1 0) job in
-      let is : sum_by (one_asked p) new ≡ sum_by (one_asked p) old = omega (arith, count, same) in
-      a.jobs p ∙ ap (λ n. count_by (λ (e : EndedValue). p e.asking.job) (whole_loop v old ended).ended + n) (shown_count p old ∙ sym is ∙ sym (shown_count p new));
-}
+pub keeps_put : (framing : Framing) (v : LoopValue) (old new : List (Option AskingState)) (ended : List (AskingState × Option Outcome)) (i : ℕ) (x y : AskingState)
+    → slice_index_or old i None ≡ Some x → y.job ≡ x.job → y.framing ≡ x.framing → Put old new i (Some y) → BeginsRequest (asked_for y)
+    → Keeps framing v old ended → Keeps framing v new ended
+keeps_put framing v old new ended i x y was job framed put begun k = (
+  record {
+    results = k.0.results;
+    fair = k.0.fair;
+    begun = begun_put old new i (Some y) put (begun_by y begun) k.0.begun;
+    jobs = λ p.
+        let count = count_put p old new i (Some x) (Some y) was put in
+        let same : one_asked p (Some y) ≡ one_asked p (Some x) = ap (λ (j : HandedJob). cond (p j.job) 1 0) job in
+        let is : sum_by (one_asked p) new ≡ sum_by (one_asked p) old = omega (arith, count, same) in
+        k.0.jobs p ∙ ap (λ n. count_by (λ (e : EndedValue). p e.asking.job) (whole_loop framing v old ended).ended + n) (shown_count p old ∙ sym is ∙ sym (shown_count p new));
+  },
+  framed_put framing old new i (Some y) put (framed_by framing y (framed ∙ k.1 i x was)) k.1,
+)
 
 -- one of them was taken out, went on with its job, and was put back
-module _ (v : LoopValue) (ended : List (AskingState × Option Outcome)) {s t u : Slab AskingState} {i key : ℕ} {x y : AskingState} where
+module _ (framing : Framing) (v : LoopValue) (ended : List (AskingState × Option Outcome)) {s t u : Slab AskingState} {i key : ℕ} {x y : AskingState} where
   pub goes_back : Updates s t i None → t.vacant_key ≡ i → key ≡ t.vacant_key → Updates t u key (Some y) → slice_index_or s.slots i None ≡ Some x
-      → AsksOn (asked_for x) (asked_for y) → Goes (whole_loop v s.slots ended) (whole_loop v u.slots ended)
-  goes_back out next is back was on = goes_put s.slots u.slots i v ended x y was (put_back s t u i key y out next is back) on
+      → AsksOn (asked_for x) (asked_for y) → Goes (whole_loop framing v s.slots ended) (whole_loop framing v u.slots ended)
+  goes_back out next is back was on = goes_put s.slots u.slots i framing v ended x y was (put_back s t u i key y out next is back) on
 
   pub keeps_back : Updates s t i None → t.vacant_key ≡ i → key ≡ t.vacant_key → Updates t u key (Some y) → slice_index_or s.slots i None ≡ Some x
-      → y.job ≡ x.job → BeginsRequest (asked_for y) → AsksFairly (whole_loop v s.slots ended) → AsksFairly (whole_loop v u.slots ended)
-  keeps_back out next is back was job begun a = keeps_put v s.slots u.slots ended i x y was job (put_back s t u i key y out next is back) begun a
+      → y.job ≡ x.job → y.framing ≡ x.framing → BeginsRequest (asked_for y) → Keeps framing v s.slots ended → Keeps framing v u.slots ended
+  keeps_back out next is back was job framed begun a = keeps_put framing v s.slots u.slots ended i x y was job framed (put_back s t u i key y out next is back) begun a
 
 -- where no job waits, nothing was taken
-pub takes_none : (v w : LoopValue) (old new : List (Option AskingState)) (ended : List (AskingState × Option Outcome))
-    → w.results ≡ v.results → w.handed ≡ v.handed ++ [] → new ≡ old → AsksFairly (whole_loop v old ended) → AsksFairly (whole_loop w new ended)
-takes_none v w old new ended same more slots a =
-    subst (λ (now : List (Option AskingState)). AsksFairly (whole_loop w now ended)) (sym slots) record {
-      results = same ∙ a.results;
-      fair = a.fair;
-      begun = a.begun;
-      jobs = λ p. ap (count_by p) (more ∙ append-nil v.handed) ∙ a.jobs p;
-    }
+pub takes_none : (framing : Framing) (v w : LoopValue) (old new : List (Option AskingState)) (ended : List (AskingState × Option Outcome))
+    → w.results ≡ v.results → w.handed ≡ v.handed ++ [] → new ≡ old → Keeps framing v old ended → Keeps framing w new ended
+takes_none framing v w old new ended same more slots k =
+    subst (λ (now : List (Option AskingState)). Keeps framing w now ended) (sym slots) (
+      record {
+        results = same ∙ k.0.results;
+        fair = k.0.fair;
+        begun = k.0.begun;
+        jobs = λ p. ap (count_by p) (more ∙ append-nil v.handed) ∙ k.0.jobs p;
+      },
+      k.1,
+    )
 
 -- a job was taken, and is asked for
-pub takes_job : (v w : LoopValue) (old new : List (Option AskingState)) (ended : List (AskingState × Option Outcome)) (i : ℕ) (y : AskingState) (j : JobValue)
-    → w.results ≡ v.results → w.handed ≡ v.handed ++ j ∷ [] → y.job.job ≡ j → slice_index_or old i None ≡ None → Put old new i (Some y)
-    → BeginsRequest (asked_for y) → AsksFairly (whole_loop v old ended) → AsksFairly (whole_loop w new ended)
-takes_job v w old new ended i y j same more job free put begun a = record {
-  results = same ∙ a.results;
-  fair = a.fair;
-  begun = begun_put old new i (Some y) put (begun_by y begun) a.begun;
-  jobs = λ p.
-      let count = count_put p old new i None (Some y) free put in
-      let own : one_asked p (Some y) ≡ cond (p j) 1 0 = ap (λ (k : JobValue). cond (p k) 1 0) job in
-      let handed : count_by p w.handed ≡ count_by p v.handed + count_by p (j ∷ []) = ap (count_by p) more ∙ sum_by-append (λ (k : JobValue). cond (p k) 1 0) v.handed (j ∷ []) in
-      let one : count_by p (j ∷ []) ≡ cond (p j) 1 0 + 0 = sum_by-cons (λ (k : JobValue). cond (p k) 1 0) j [] in
-      let before = a.jobs p in
-      let shown = shown_count p old in
-      let later = shown_count p new in
-      omega (arith, count, own, handed, one, before, shown, later);
-}
+pub takes_job : (framing : Framing) (v w : LoopValue) (old new : List (Option AskingState)) (ended : List (AskingState × Option Outcome)) (i : ℕ) (y : AskingState) (j : JobValue)
+    → w.results ≡ v.results → w.handed ≡ v.handed ++ j ∷ [] → y.job.job ≡ j → y.framing ≡ framing → slice_index_or old i None ≡ None → Put old new i (Some y)
+    → BeginsRequest (asked_for y) → Keeps framing v old ended → Keeps framing w new ended
+takes_job framing v w old new ended i y j same more job framed free put begun k = (
+  record {
+    results = same ∙ k.0.results;
+    fair = k.0.fair;
+    begun = begun_put old new i (Some y) put (begun_by y begun) k.0.begun;
+    jobs = λ p.
+        let count = count_put p old new i None (Some y) free put in
+        let own : one_asked p (Some y) ≡ cond (p j) 1 0 = ap (λ (k : JobValue). cond (p k) 1 0) job in
+        let handed : count_by p w.handed ≡ count_by p v.handed + count_by p (j ∷ []) = ap (count_by p) more ∙ sum_by-append (λ (k : JobValue). cond (p k) 1 0) v.handed (j ∷ []) in
+        let one : count_by p (j ∷ []) ≡ cond (p j) 1 0 + 0 = sum_by-cons (λ (k : JobValue). cond (p k) 1 0) j [] in
+        let before = k.0.jobs p in
+        let shown = shown_count p old in
+        let later = shown_count p new in
+        omega (arith, count, own, handed, one, before, shown, later);
+  },
+  framed_put framing old new i (Some y) put (framed_by framing y framed) k.1,
+)
 
 -- one of them ended, and its result was handed in
-pub ends_one : (v w : LoopValue) (old new : List (Option AskingState)) (ended ended' : List (AskingState × Option Outcome)) (i : ℕ) (x y : AskingState) (o : Option Outcome) (j : HandedJob)
-    → w.results ≡ v.results ++ (j.job, o) ∷ [] → w.handed ≡ v.handed → slice_index_or old i None ≡ Some x → y.job ≡ x.job → j ≡ y.job → Put old new i None
-    → ended' ≡ ended ++ (y, o) ∷ [] → IsFair (ended_value (asked_for y) o) → AsksFairly (whole_loop v old ended) → AsksFairly (whole_loop w new ended')
-ends_one v w old new ended ended' i x y o j results same was job own put more fair a =
+pub ends_one : (framing : Framing) (v w : LoopValue) (old new : List (Option AskingState)) (ended ended' : List (AskingState × Option Outcome)) (i : ℕ) (x y : AskingState) (o : Option Outcome) (j : HandedJob)
+    → w.results ≡ v.results ++ (j.job, o) ∷ [] → w.handed ≡ v.handed → slice_index_or old i None ≡ Some x → y.job ≡ x.job → y.framing ≡ x.framing → j ≡ y.job → Put old new i None
+    → ended' ≡ ended ++ (y, o) ∷ [] → IsFair y.framing (ended_value (asked_for y) o) → Keeps framing v old ended → Keeps framing w new ended'
+ends_one framing v w old new ended ended' i x y o j results same was job framed own put more fair k =
     let show : AskingState × Option Outcome → EndedValue = λ (d : AskingState × Option Outcome). ended_value (asked_for d.0) d.1 in
     let shown : map show ended' ≡ map show ended ++ show (y, o) ∷ [] = ap (map show) more ∙ map-append show ended ((y, o) ∷ []) in
-    let pair : EndedValue → JobValue × Option Outcome = λ (e : EndedValue). (e.asking.job, e.outcome) in record {
-      results =
-          results ∙ ap (λ (l : List (JobValue × Option Outcome)). l ++ (j.job, o) ∷ []) a.results
-          ∙ ap (λ (k : HandedJob). map pair (map show ended) ++ (k.job, o) ∷ []) own
-          ∙ sym (map-append pair (map show ended) (show (y, o) ∷ []))
-          ∙ ap (map pair) (sym shown);
-      fair = subst (All IsFair) (sym shown) (All-push IsFair (map show ended) (show (y, o)) a.fair fair);
-      begun = begun_put old new i None put (λ (z : AskingValue) is. absurd (none_asked z is)) a.begun;
-      jobs = λ p.
-          let of_ended : EndedValue → Bool = λ (e : EndedValue). p e.asking.job in
-          let count = count_put p old new i (Some x) None was put in
-          let one : one_asked p (Some x) ≡ cond (p y.job.job) 1 0 = ap (λ (k : HandedJob). cond (p k.job) 1 0) (sym job) in
-          let none : one_asked p None ≡ 0 = refl in
-          let handed = ap (count_by p) same ∙ a.jobs p in
-          let total : count_by of_ended (map show ended') ≡ count_by of_ended (map show ended) + count_by of_ended (show (y, o) ∷ []) =
-          ap (count_by of_ended) shown ∙ sum_by-append (λ (e : EndedValue). cond (of_ended e) 1 0) (map show ended) (show (y, o) ∷ []) in
-          let last : count_by of_ended (show (y, o) ∷ []) ≡ cond (p y.job.job) 1 0 + 0 = sum_by-cons (λ (e : EndedValue). cond (of_ended e) 1 0) (show (y, o)) [] in
-          let before = shown_count p old in
-          let later = shown_count p new in
-          omega (arith, count, one, none, handed, total, last, before, later);
-    }
+    let pair : EndedValue → JobValue × Option Outcome = λ (e : EndedValue). (e.asking.job, e.outcome) in (
+      record {
+        results =
+            results ∙ ap (λ (l : List (JobValue × Option Outcome)). l ++ (j.job, o) ∷ []) k.0.results
+            ∙ ap (λ (k : HandedJob). map pair (map show ended) ++ (k.job, o) ∷ []) own
+            ∙ sym (map-append pair (map show ended) (show (y, o) ∷ []))
+            ∙ ap (map pair) (sym shown);
+        fair =
+            subst (All (IsFair framing)) (sym shown)
+            (All-push (IsFair framing) (map show ended) (show (y, o)) k.0.fair (subst (λ (f : Framing). IsFair f (show (y, o))) (framed ∙ k.1 i x was) fair));
+        begun = begun_put old new i None put (λ (z : AskingValue) is. absurd (none_asked z is)) k.0.begun;
+        jobs = λ p.
+            let of_ended : EndedValue → Bool = λ (e : EndedValue). p e.asking.job in
+            let count = count_put p old new i (Some x) None was put in
+            let one : one_asked p (Some x) ≡ cond (p y.job.job) 1 0 = ap (λ (k : HandedJob). cond (p k.job) 1 0) (sym job) in
+            let none : one_asked p None ≡ 0 = refl in
+            let handed = ap (count_by p) same ∙ k.0.jobs p in
+            let total : count_by of_ended (map show ended') ≡ count_by of_ended (map show ended) + count_by of_ended (show (y, o) ∷ []) =
+            ap (count_by of_ended) shown ∙ sum_by-append (λ (e : EndedValue). cond (of_ended e) 1 0) (map show ended) (show (y, o) ∷ []) in
+            let last : count_by of_ended (show (y, o) ∷ []) ≡ cond (p y.job.job) 1 0 + 0 = sum_by-cons (λ (e : EndedValue). cond (of_ended e) 1 0) (show (y, o)) [] in
+            let before = shown_count p old in
+            let later = shown_count p new in
+            omega (arith, count, one, none, handed, total, last, before, later);
+      },
+      framed_put framing old new i None put (λ (z : AskingState) is. absurd (none_state z is)) k.1,
+    )
 
-pub starts_fair : (v : LoopValue) → v.results ≡ [] → v.handed ≡ [] → AsksFairly (whole_loop v [] [])
-starts_fair v no_results none_handed = search arith
+pub starts_fair : (framing : Framing) (v : LoopValue) → v.results ≡ [] → v.handed ≡ [] → Keeps framing v [] []
+starts_fair framing v no_results none_handed = (fair, λ i x is. absurd (none_state x is))
+  where
+    fair : AsksFairly (whole_loop framing v [] [])
+    fair = search arith

@@ -22,7 +22,8 @@ pub use Rattle.gateway_theory.specs.Served.{after_reply, Served}
 pub use Rattle.gateway_theory.specs.Task.{HandedJob}
 pub use Rattle.gateway_theory.specs.Values.{GatewayValue, shown}
 pub use Rattle.gateway_theory.specs.lemmas.PastLemmas.{prefix-refl, prefix-trans}
-pub use Rattle.loop_model.specs.Asking.{IsAddressOf, StreamValue, BeginsRequest, AskingValue, EndedValue, IsFair, ended_value, IsUntouched, request_of, stream_value}
+pub use Rattle.http_pieces.specs.declared.framing.Framing.{Framing}
+pub use Rattle.loop_model.specs.Asking.{StreamValue, BeginsRequest, AskingValue, EndedValue, IsFair, ended_value, IsUntouched, request_of, stream_value}
 pub use Rattle.loop_model.specs.Clients.{ClientValue, client_value, IsExplainedClient}
 pub use Rattle.loop_model.specs.Explained.{LoopValue, at, one_below, count_of, IsExplainedBy, draining}
 pub use Rattle.loop_model.specs.Growing.{HasTicked, Grows, Continues}
@@ -33,4 +34,4 @@ pub use Rattle.branch_asking.specs.Addresses.{AddressesValue, AreOf, addresses_v
 pub use Rattle.branch_asking.specs.Asking.{AskingState, asked_for, Asks, HasGrown, AttemptValue, HadStream, HasBegun, HasEnded, IsUnsent, IsUntouchedAttempt, asking_state, attempt_value}
 pub use Rattle.gateway_loop.specs.Clients.{Leads, lingering, Fits, HasStood, MakesSteps, Onward, HoldsRest, IsHeld, IsQuiet, OpensNone, lingers_in, HandsNothing, Follows, IsStreamOf, IsServing, FitsOn, Stands}
 pub use Rattle.gateway_loop.specs.Laws.{LoopLaws}
-pub use Rattle.gateway_loop.specs.Loop.{Goes, TellsLoop, whole_loop}
+pub use Rattle.gateway_loop.specs.Loop.{AreFramed, Goes, TellsLoop, whole_loop}

@@ -1,18 +1,24 @@
 -- A loop: its clients, and the jobs that are asked for.
-use Rattle.std.specs.Prelude.{◌≡◌, ℕ, List, [], map, Option, option_map}
+use Rattle.std.specs.Prelude.{◌≡◌, ℕ, List, [], map, slice_index_or, Option, None, Some, option_map}
 use Rattle.connect_codec.specs.declared.answer.Outcome.{Outcome}
+use Rattle.http_pieces.specs.declared.framing.Framing.{Framing}
 use Rattle.loop_model.specs.Asking.{ended_value}
 use Rattle.loop_model.specs.Explained.{LoopValue}
 use Rattle.loop_model.specs.Whole.{ContinuesLoop, WholeLoop}
 use Rattle.branch_asking.specs.Asking.{AskingState, asked_for}
 use Rattle.gateway_loop.specs.Clients.{Starts, Tells}
 
-abbrev pub whole_loop : LoopValue → List (Option AskingState) → List (AskingState × Option Outcome) → WholeLoop
-whole_loop side asking ended = record {
+abbrev pub whole_loop : Framing → LoopValue → List (Option AskingState) → List (AskingState × Option Outcome) → WholeLoop
+whole_loop framing side asking ended = record {
+  framing = framing;
   side = side;
   asking = map (λ (o : Option AskingState). option_map asked_for o) asking;
   ended = map (λ (e : AskingState × Option Outcome). ended_value (asked_for e.0) e.1) ended;
 }
+
+-- the replies of all that are asked for may be framed so
+abbrev pub AreFramed : Framing → List (Option AskingState) → Type 0
+AreFramed framing asking = (i : ℕ) (x : AskingState) → slice_index_or asking i None ≡ Some x → x.framing ≡ framing
 
 -- a new loop
 pub record StartsLoop (w : WholeLoop) : Type 0 where

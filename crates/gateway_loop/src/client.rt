@@ -9,12 +9,11 @@ ghost use Rattle.gateway_theory.specs.Told.{TakesEvent};
 use crate::hints::Hints;
 use crate::limits::MOST_WRITES;
 use branch_asking::Network;
-use gateway_core::{CallId, ConnId, Core, ReplyEntry, ReplyHook, RequestLabel};
+use gateway_core::{CallId, ConnId, Core, ReplyEntry, ReplyHook, RequestLabel, deliver};
 use http_pieces::Bytes;
 use std::alloc::Global;
 use std::marker::Model;
-use whole_pieces::deliver;
-use wires::{Got, Outbox, PIECE, Sent, Wire};
+use wires::{Got, Outbox, PIECE, Ready, Sent, Wire};
 
 /// A client: its stream, and its connection.
 #[derive(Drop)]
@@ -114,6 +113,21 @@ impl<W: Wire> Client<W> {
         &self.wire
     }
 
+    /// Watches its stream by that token. False where it can't.
+    pub(crate) fn watch<N: Network<W>>(&mut self, net: &mut N, token: usize) -> bool
+        ensures same { self.new ≡ self.old }
+        ensures told { N.told net.new ≡ N.told net.old }
+    {
+        net.watch(&mut self.wire, token, true)
+    }
+
+    /// Something became possible at its stream.
+    pub(crate) fn report(&mut self, ready: Ready)
+        ensures { self.new ≡ self.old }
+    {
+        self.wire.report(ready);
+    }
+
     /// Its connection.
     pub(crate) fn conn(&self) -> ConnId
         ensures { result ≡ self.now.conn }
@@ -134,7 +148,7 @@ impl<W: Wire> Client<W> {
 
     /// Whether it is to be read: its stream may have bytes, and nothing waits to be written to it.
     pub(crate) fn is_to_be_read<H: ReplyHook + Drop>(&self, core: &Core<H>) -> bool {
-        if !self.hints.edges.may_read {
+        if !self.wire.may_read() {
             return false;
         }
         match self.phase {
@@ -174,19 +188,14 @@ impl<W: Wire> Client<W> {
         let mut piece = [0u8; PIECE];
         match self.wire.read(&mut piece) {
             Got::Bytes(count) => {
-                self.hints.edges.has_read(count);
                 if self.phase == Phase::Lingers {
                     return Heard::Nothing;
                 }
                 take_in(core, self.conn, &piece[..count])
             }
-            Got::Nothing => {
-                self.hints.edges.may_read = false;
-                Heard::Nothing
-            }
+            Got::Nothing => Heard::Nothing,
             Got::Interrupted => Heard::Nothing,
             Got::End(_) => {
-                self.hints.edges.may_read = false;
                 if self.phase == Phase::Reads {
                     hang_up(core, self.conn);
                     self.phase = Phase::Deaf;
@@ -240,7 +249,7 @@ impl<W: Wire> Client<W> {
         if self.outbox.is_empty() {
             return Some(Written::All);
         }
-        if !self.hints.edges.may_write {
+        if !self.wire.may_write() {
             return Some(Written::Waits);
         }
         match self.wire.write(&self.outbox) {
@@ -251,10 +260,7 @@ impl<W: Wire> Client<W> {
                 }
                 None
             }
-            Sent::Nothing => {
-                self.hints.edges.may_write = false;
-                None
-            }
+            Sent::Nothing => None,
             Sent::Interrupted => Some(Written::More),
             Sent::Failed(_) => {
                 self.tell(net);

@@ -11,7 +11,7 @@ use crate::comings::Dealt;
 use crate::laws::loop_laws;
 use crate::limits::{MOST_CLIENTS, is_due};
 use crate::tokens::client_token;
-use branch_asking::{Network, Ready};
+use branch_asking::Network;
 use call_plan::Plans;
 use connect_codec::Outcome;
 use gateway_core::{Core, Job, ReplyHook};
@@ -19,7 +19,7 @@ use http_server::Log;
 use slab::Slab;
 use std::alloc::{AllocError, Global};
 use std::marker::Model;
-use wires::Wire;
+use wires::{Ready, Wire};
 
 /// A core and its clients, by their places. Whatever is done by its functions, one history explains all that its
 /// clients' streams brought and got (`explained_law`).
@@ -245,11 +245,12 @@ impl<H: ReplyHook + Drop, W: Wire + Drop> Clients<H, W> {
     }
 
     /// Watches the stream of the client in that place. False where it can't be.
-    pub(crate) fn watch<N: Network<W>>(&self, net: &mut N, place: usize) -> bool
-        ensures { N.told net.new ≡ N.told net.old }
+    pub(crate) fn watch<N: Network<W>>(&mut self, net: &mut N, place: usize) -> bool
+        ensures same { self.new ≡ self.old }
+        ensures told { N.told net.new ≡ N.told net.old }
     {
-        match self.clients.get(place) {
-            Some(client) => net.watch(client.wire(), client_token(place), true),
+        match self.clients.get_mut(place) {
+            Some(client) => client.watch(net, client_token(place)),
             None => false,
         }
     }
@@ -332,7 +333,7 @@ impl<H: ReplyHook + Drop, W: Wire + Drop> Clients<H, W> {
         ensures { self.new ≡ self.old }
     {
         if let Some(client) = self.clients.get_mut(place) {
-            client.hints_mut().note_ready(ready);
+            client.report(ready);
         }
     }
 

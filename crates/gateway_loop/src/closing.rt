@@ -1,7 +1,7 @@
 use crate::limits::MOST_CLOSING;
-use branch_asking::Ready;
 use std::alloc::{AllocError, Global};
 use std::collections::VecDeque;
+use wires::Ready;
 
 /// Streams to backends whose replies came whole. Each waits for its backend's end for a while, and is closed then: so
 /// the port waits for stray packets on the side of the backend, which has closed first (TIME_WAIT of RFC 9293). No law

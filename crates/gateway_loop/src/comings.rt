@@ -1,12 +1,11 @@
 ghost use Rattle.std.specs.Prelude.{◌≡◌, [], false};
 
-use branch_asking::Ready;
 use gateway_core::Stock;
 use std::alloc::Global;
 use std::collections::VecDeque;
 use std::marker::Model;
 use std::net::SocketAddr;
-use wires::Wire;
+use wires::{Ready, Wire};
 
 /// A client's stream, of which nothing was read or written yet, and the hooks of its connection.
 #[derive(Drop)]

@@ -17,6 +17,7 @@ use crate::roster::Roster;
 use crate::unasked::Unasked;
 use call_plan::Plans;
 use gateway_core::{ReplyHook, Tally};
+use http_pieces::Framing;
 use std::alloc::{AllocError, Global};
 use std::marker::Model;
 use wires::Wire;
@@ -57,8 +58,9 @@ impl<H, W: Wire> Model for EventLoop<H, W> {
 }
 
 impl<H: ReplyHook + Drop, W: Wire + Drop> EventLoop<H, W> {
-    /// A loop that serves these plans, with no client.
-    pub fn new(alloc: Global, plans: Plans) -> Result<EventLoop<H, W>, AllocError>
+    /// A loop that serves these plans, with no client. Replies of backends may be framed so.
+    pub fn new(alloc: Global, plans: Plans, framing: Framing) -> Result<EventLoop<H, W>, AllocError>
+        ensures framing { IfOk result (λ l. l.framing ≡ framing) }
         ensures plans { IfOk result (λ l. l.side.core.plans ≡ plans) }
         ensures starts { IfOk result StartsLoop }
         ensures serves { IfOk result (λ l. Served l.side.core no_history) }
@@ -70,7 +72,7 @@ impl<H: ReplyHook + Drop, W: Wire + Drop> EventLoop<H, W> {
             ends: Ends::new(alloc)?,
             unasked: Unasked::new(alloc),
             closing: ClosingStreams::new(alloc)?,
-            exchanges: Exchanges::new(alloc, plans)?,
+            exchanges: Exchanges::new(alloc, plans, framing)?,
         })
     }
 

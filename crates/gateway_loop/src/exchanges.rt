@@ -10,12 +10,13 @@ use crate::clients::Clients;
 use crate::comings::Dealt;
 use crate::limits::{ATTEMPT, MOST_EXCHANGES, is_due};
 use crate::tokens::{Owner, exchange_token, owner_of};
-use branch_asking::{Asking, BranchEnd, Errand, Network, Progress, Ready};
+use branch_asking::{Asking, BranchEnd, Errand, Network, Progress};
 use branch_causes::Cause;
 use branch_exchange::Loss;
 use call_plan::Plans;
 use connect_codec::Outcome;
 use gateway_core::ReplyHook;
+use http_pieces::Framing;
 use http_server::Log;
 use slab::Slab;
 use std::alloc::{AllocError, Global};
@@ -23,13 +24,15 @@ use std::collections::VecDeque;
 use std::io::ErrorKind;
 use std::marker::Model;
 use std::net::SocketAddr;
-use wires::Wire;
+use wires::{Ready, Wire};
 
 /// A core with its clients, and the jobs that are asked for, by their places. Whatever is done by its functions, each
 /// job that was taken is asked for, or has one result, which is that of its exchange (`explained_law`).
 #[derive(Drop)]
 pub(crate) struct Exchanges<H, W: Wire> {
     alloc: Global,
+    // how replies of backends may be framed
+    framing: Framing,
     clients: Clients<H, W>,
     asking: Slab<Asking<W>>,
     // for proofs: those that ended, each with the outcome that was recorded
@@ -38,25 +41,32 @@ pub(crate) struct Exchanges<H, W: Wire> {
 
 impl<H, W: Wire> Model for Exchanges<H, W> {
     ghost use Rattle.loop_model.specs.Whole.{AsksFairly, WholeLoop};
-    ghost use Rattle.gateway_loop.specs.Loop.{whole_loop};
+    ghost use Rattle.gateway_loop.specs.Loop.{AreFramed, whole_loop};
 
     ghost Value = { WholeLoop };
 
-    ghost view = { λ l. whole_loop l.clients l.asking.slots l.ended.items };
+    ghost view = { λ l. whole_loop l.framing l.clients l.asking.slots l.ended.items };
 
-    ghost invariant = { λ l. AsksFairly (whole_loop l.clients l.asking.slots l.ended.items) };
+    ghost invariant = { λ l. AsksFairly (whole_loop l.framing l.clients l.asking.slots l.ended.items)
+        × AreFramed l.framing l.asking.slots };
 }
 
 #[tactic(auto, using(crate::proofs::AskLemmas::goes_side, crate::proofs::AskLemmas::keeps_asking))]
 impl<H: ReplyHook + Drop, W: Wire + Drop> Exchanges<H, W> {
-    /// A core that serves these plans, with no client and no job.
-    pub(crate) fn new(alloc: Global, plans: Plans) -> Result<Exchanges<H, W>, AllocError>
+    /// A core that serves these plans, with no client and no job. Replies of backends may be framed so.
+    pub(crate) fn new(
+        alloc: Global,
+        plans: Plans,
+        framing: Framing,
+    ) -> Result<Exchanges<H, W>, AllocError>
+        ensures framing { IfOk result (λ l. l.framing ≡ framing) }
         ensures plans { IfOk result (λ l. l.side.core.plans ≡ plans) }
         ensures starts { IfOk result StartsLoop }
         ensures serves { IfOk result (λ l. Served l.side.core no_history) }
     {
         Ok(Exchanges {
             alloc,
+            framing,
             asking: Slab::with_capacity(alloc, MOST_EXCHANGES)?,
             clients: Clients::new(alloc, plans)?,
             ended: Log::new(),
@@ -206,14 +216,12 @@ impl<H: ReplyHook + Drop, W: Wire + Drop> Exchanges<H, W> {
     }
 
     /// Watches the stream of the exchange in that place. False where it can't be.
-    pub(crate) fn watch<N: Network<W>>(&self, net: &mut N, place: usize) -> bool
-        ensures { N.told net.new ≡ N.told net.old }
+    pub(crate) fn watch<N: Network<W>>(&mut self, net: &mut N, place: usize) -> bool
+        ensures same { self.new ≡ self.old }
+        ensures told { N.told net.new ≡ N.told net.old }
     {
-        let Some(asking) = self.asking.get(place) else {
-            return false;
-        };
-        match asking.attempt().wire() {
-            Some(wire) => net.watch(wire, exchange_token(place), !asking.attempt().is_sent()),
+        match self.asking.get_mut(place) {
+            Some(asking) => asking.watch(net, exchange_token(place)),
             None => false,
         }
     }
@@ -228,7 +236,7 @@ impl<H: ReplyHook + Drop, W: Wire + Drop> Exchanges<H, W> {
         }
         let job = self.clients.take_job()?;
         let errand = Errand::new(self.clients.client_of(&job), self.clients.moment());
-        let asking = Asking::new(self.alloc, job, errand);
+        let asking = Asking::new(self.alloc, self.framing, job, errand);
         asking.begun_law();
         Some(self.asking.insert_reserved(asking))
     }
@@ -332,6 +340,14 @@ impl<H: ReplyHook + Drop, W: Wire + Drop> Exchanges<H, W> {
 
 // what else is known of clients and exchanges
 impl<H: ReplyHook + Drop, W: Wire + Drop> Exchanges<H, W> {
+    /// Watches the stream of the client in that place. False where it can't be.
+    pub(crate) fn watch_client<N: Network<W>>(&mut self, net: &mut N, place: usize) -> bool
+        ensures same { self.new ≡ self.old }
+        ensures told { N.told net.new ≡ N.told net.old }
+    {
+        self.clients.watch(net, place)
+    }
+
     /// Something became possible at the stream of whom the token names; whether that may be told of another's, too, that
     /// had the token before.
     pub(crate) fn note_ready(&mut self, ready: Ready, is_shared: bool)
@@ -341,7 +357,7 @@ impl<H: ReplyHook + Drop, W: Wire + Drop> Exchanges<H, W> {
             Owner::Client(place) => self.clients.note_ready(place, ready),
             Owner::Exchange(place) => {
                 if let Some(asking) = self.asking.get_mut(place) {
-                    asking.errand_mut().note_ready(ready, is_shared);
+                    asking.report(ready, is_shared);
                 }
             }
         }

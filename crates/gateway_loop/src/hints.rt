@@ -1,11 +1,9 @@
-use branch_asking::{Edges, Ready};
 use std::alloc::Global;
 use std::mem;
 
 /// What else a loop knows of a client. No law speaks of it.
 #[derive(Drop)]
 pub(crate) struct Hints {
-    pub(crate) edges: Edges,
     // the places of the exchanges for its calls, in no order
     pub(crate) exchanges: Vec<usize>,
     // whether it is in the line of those that are to be served
@@ -20,17 +18,11 @@ impl Hints {
     /// Of a new client.
     pub(crate) fn new(alloc: Global) -> Hints {
         Hints {
-            edges: Edges::new(),
             exchanges: Vec::new(alloc),
             is_in_line: false,
             is_noted: false,
             is_half_read: false,
         }
-    }
-
-    /// Something became possible.
-    pub(crate) fn note_ready(&mut self, ready: Ready) {
-        self.edges.note(ready);
     }
 
     /// Whether it is in the line from now on. Answers whether it was.

@@ -21,9 +21,10 @@ mod tokens;
 mod turn;
 mod unasked;
 
-pub use branch_asking::{BranchEnd, Network, Ready};
+pub use branch_asking::{BranchEnd, Network};
 pub use branch_causes::Cause;
 pub use comings::{Comings, Dealt, LookedUp};
 pub use event_loop::{EventLoop, LoopStanding};
 pub use limits::{MOST_ADDRESSES, MOST_CLOSING, MOST_EXCHANGES, MOST_LINGERING};
 pub use next_turn::NextTurn;
+pub use wires::Ready;

@@ -37,7 +37,7 @@ impl<H: ReplyHook + Drop, W: Wire + Drop> EventLoop<H, W> {
         let Some(place) = self.exchanges.open(dealt) else {
             return net.tell_unserved();
         };
-        if !self.clients().watch(net, place) {
+        if !self.exchanges.watch_client(net, place) {
             self.drop_client(place);
             net.tell_unserved();
         }

@@ -5,4 +5,4 @@ use Rattle.call_plan.specs.Plan.{PlanRecord}
 
 -- the branch of that number; no branch has empty texts
 abbrev pub branch_at : PlanRecord → ℕ → Branch
-branch_at plan i = slice_index_or plan.branches i (record { name = []; address = []; path = []; timeout_ms = None })
+branch_at plan i = slice_index_or plan.branches i (record { name = []; address = []; path = []; timeout_ms = None; pass = [] })

@@ -7,6 +7,7 @@ ghost use Rattle.gateway_model.specs.declared.entry.ReplyEntry.{ReplyEntry};
 
 use crate::contexts::Contexts;
 use crate::ending::ending_of;
+use crate::held::hold_answers;
 use crate::hook::ReplyHook;
 use crate::joined::joined;
 use crate::label::RequestLabel;
@@ -33,7 +34,9 @@ pub fn reply_to<H: ReplyHook + Drop>(
     ensures called { OnOk result (GivesBytes H.gives id (ending_for call) (call_reply call).bytes contexts.old) }
     ensures once { OnErr result (CallsAtMost (called_on id (ending_for call)) contexts.old.called contexts.new.called) }
 {
-    let bytes = bytes_of(alloc, contexts, &id, &call)?;
+    let mut bytes = bytes_of(alloc, contexts, &id, &call)?;
+    let mut call = call;
+    hold_answers(&mut call, &mut bytes);
     Ok(reply_of_call(id, call, bytes, label))
 }
 

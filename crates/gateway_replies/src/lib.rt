@@ -7,6 +7,7 @@ mod arrived_call;
 mod contexts;
 mod decided;
 mod ending;
+mod held;
 mod hook;
 mod joined;
 mod label;

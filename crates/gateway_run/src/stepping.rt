@@ -7,9 +7,8 @@ ghost use Rattle.gateway_model.specs.Events.{is_opening};
 ghost use Rattle.gateway_model.specs.History.{History};
 ghost use Rattle.gateway_run.specs.Stepping.{AddsStep, Tells, after_step, done_of, opening_of, seen_in, taken_of};
 
-use gateway_core::{CallId, ConnId, Core, OpenError, ReplyHook, StepFault, Stock, Took};
+use gateway_core::{CallId, ConnId, Core, OpenError, ReplyHook, StepFault, Stock, Took, deliver};
 use gateway_model::Event;
-use whole_pieces::deliver;
 
 /// What one event came to.
 #[derive(Drop)]

@@ -1,5 +1,5 @@
 -- Worked rows: what occurs in each.
-use Rattle.std.specs.Prelude.{ℕ, zero, suc, Bool, false, ◌&&◌, option_and_then, List, [], ◌∷◌, ◌++◌, replicate, reverse, length, codes, Option, None, Some}
+use Rattle.std.specs.Prelude.{ℕ, zero, suc, Bool, false, ◌&&◌, option_and_then, List, [], ◌∷◌, ◌++◌, map, replicate, reverse, length, codes, Option, None, Some}
 use Rattle.std.specs.List.{enumerate_from}
 use Rattle.error_document.specs.Documents.{error_text, plain_error}
 use Rattle.error_document.specs.declared.code.Code.{Code}
@@ -27,6 +27,7 @@ use Rattle.gateway_model.specs.declared.call_event.CallEvent.{CallEvent}
 use Rattle.gateway_model.specs.Branch.{branch_at}
 use Rattle.gateway_model.specs.CallRecord.{CallRecord}
 use Rattle.gateway_model.specs.Job.{JobValue}
+use Rattle.connect_codec.specs.Passed.{passed}
 use Rattle.gateway_model.specs.declared.id.CallId.{CallId}
 use Rattle.gateway_model.specs.Past.{call_id, past_of}
 use Rattle.gateway_model.specs.Queue.{entry, queued}
@@ -51,6 +52,7 @@ job_with call i plan request request_id deadline remaining = record {
   path = (branch_at plan i).path;
   body = request.body;
   request_id = request_id;
+  passed = passed (branch_at plan i).pass request.fields;
   deadline = deadline;
   remaining = remaining;
 }
@@ -66,7 +68,7 @@ ping = record {
   path = codes "/acme.v1.Ping/Ping";
   limit = 1;
   timeout = None;
-  branches = record { name = codes "pong"; address = codes "127.0.0.1:9001"; path = codes "/acme.v1.Pong/Pong"; timeout_ms = None } ∷ [];
+  branches = record { name = codes "pong"; address = codes "127.0.0.1:9001"; path = codes "/acme.v1.Pong/Pong"; timeout_ms = None; pass = [] } ∷ [];
 }
 
 abbrev pub quote : PlanRecord
@@ -75,22 +77,31 @@ quote = record {
   limit = 2;
   timeout = Some 5000;
   branches =
-      record { name = codes "flight"; address = codes "127.0.0.1:9002"; path = codes "/acme.v1.Flight/Find"; timeout_ms = None }
-      ∷ record { name = codes "hotel"; address = codes "127.0.0.1:9003"; path = codes "/acme.v1.Hotel/Find"; timeout_ms = None }
-      ∷ record { name = codes "car"; address = codes "127.0.0.1:9004"; path = codes "/acme.v1.Car/Find"; timeout_ms = None } ∷ [];
+      record { name = codes "flight"; address = codes "127.0.0.1:9002"; path = codes "/acme.v1.Flight/Find"; timeout_ms = None; pass = [] }
+      ∷ record { name = codes "hotel"; address = codes "127.0.0.1:9003"; path = codes "/acme.v1.Hotel/Find"; timeout_ms = None; pass = [] }
+      ∷ record { name = codes "car"; address = codes "127.0.0.1:9004"; path = codes "/acme.v1.Car/Find"; timeout_ms = None; pass = [] } ∷ [];
 }
 
 -- the same with a timeout for each branch, if it has one
 abbrev pub timed : PlanRecord → Option ℕ → Option ℕ → Option ℕ → PlanRecord
 timed plan flight hotel car = record plan {
   branches =
-      record { name = codes "flight"; address = codes "127.0.0.1:9002"; path = codes "/acme.v1.Flight/Find"; timeout_ms = flight }
-      ∷ record { name = codes "hotel"; address = codes "127.0.0.1:9003"; path = codes "/acme.v1.Hotel/Find"; timeout_ms = hotel }
-      ∷ record { name = codes "car"; address = codes "127.0.0.1:9004"; path = codes "/acme.v1.Car/Find"; timeout_ms = car } ∷ [];
+      record { name = codes "flight"; address = codes "127.0.0.1:9002"; path = codes "/acme.v1.Flight/Find"; timeout_ms = flight; pass = [] }
+      ∷ record { name = codes "hotel"; address = codes "127.0.0.1:9003"; path = codes "/acme.v1.Hotel/Find"; timeout_ms = hotel; pass = [] }
+      ∷ record { name = codes "car"; address = codes "127.0.0.1:9004"; path = codes "/acme.v1.Car/Find"; timeout_ms = car; pass = [] } ∷ [];
 }
 
 abbrev pub quote_timed : Option ℕ → Option ℕ → Option ℕ → PlanRecord
 quote_timed = timed quote
+
+-- the same, where flight is sent two fields of a call's request, and car one
+abbrev pub quote_passing : PlanRecord
+quote_passing = record quote {
+  branches =
+      record { name = codes "flight"; address = codes "127.0.0.1:9002"; path = codes "/acme.v1.Flight/Find"; timeout_ms = None; pass = codes "authorization" ∷ codes "X-Tenant" ∷ [] }
+      ∷ record { name = codes "hotel"; address = codes "127.0.0.1:9003"; path = codes "/acme.v1.Hotel/Find"; timeout_ms = None; pass = [] }
+      ∷ record { name = codes "car"; address = codes "127.0.0.1:9004"; path = codes "/acme.v1.Car/Find"; timeout_ms = None; pass = codes "authorization" ∷ [] } ∷ [];
+}
 
 -- ---- requests
 
@@ -174,6 +185,14 @@ text_of q = head_text q ++ q.body
 -- request number k of that connection asks for a call of the plan, with that timeout and that request id
 abbrev pub asks_on : ℕ → PlanRecord → Option ℕ → Option (List ℕ) → ℕ → Occurrence
 asks_on conn plan timeout id k = Comes conn (Request (request_for plan.path k) (Asks plan timeout id))
+
+-- request number k of connection 0 asks for a call of the plan, with these fields behind `Host`
+abbrev pub asks_with : PlanRecord → List NamedValue → ℕ → Occurrence
+asks_with plan fields k = Comes 0 (Request (record (request_for plan.path k) { fields = (codes "Host", codes "g") ∷ fields }) (Asks plan None None))
+
+-- the fields that the jobs pass on, job by job
+abbrev pub passed_by : List Occurrence → List (List NamedValue)
+passed_by os = map (λ s. s.1.passed) (row_starts os)
 
 -- ---- what occurs on connection 0
 

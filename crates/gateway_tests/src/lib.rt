@@ -8,5 +8,6 @@ mod rows_branches;
 mod rows_breaks;
 mod rows_connections;
 mod rows_corners;
+mod rows_passed;
 mod rows_replies;
 mod rows_streams;

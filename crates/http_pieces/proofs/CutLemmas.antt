@@ -2,7 +2,19 @@
 use Rattle.std.proofs.Common.{◌≡◌, ℕ, ◌<◌, ◌≤◌, ◌==◌, Bool, true, false, ◌&&◌, nat_lt, List, [], ◌∷◌, ◌++◌, length, take, drop, refl, sym, ap, subst, ◌∙◌, arith, length-take, length-append, length-take-le}
 use Rattle.std.proofs.lemmas.Bool.Decides.{nat_tests}
 use Rattle.std.proofs.lemmas.List.{take-append-le, drop-append-le, take-append-drop}
-use Rattle.http_pieces.specs.Cut.{Cut, Incomplete, Refused, Complete, Asks, Refusal, Body, Kind, IsSingle, IsCut, skip_pairs, most_head, IsBlock, HasNoBlock, cut_unblocked, cut_after, IsCutText, without_block, without_head, with_head}
+use Rattle.http_pieces.specs.Cut.{Cut, Incomplete, Refused, Complete, Asks, Refusal, Body, Coded, Kind, IsSingle, IsCut, skip_pairs, most_head, IsBlock, HasNoBlock, cut_unblocked, cut_after, IsCutText, without_block, without_head, with_head}
+
+-- ---- codings
+
+-- a coding whose messages and refusals more bytes do not change, and which leaves no more than came
+pub record IsCoding {R V : Type 0} (cut : List ℕ → Cut R V) : Type 0 where
+  pub complete : (after more : List ℕ) (v : V) (rest : List ℕ) → Complete v rest ≡ cut after → Complete v (rest ++ more) ≡ cut (after ++ more)
+  pub refused : (after more : List ℕ) (r : R) → Refused r ≡ cut after → Refused r ≡ cut (after ++ more)
+  pub within : (after : List ℕ) (v : V) (rest : List ℕ) → Complete v rest ≡ cut after → length rest ≤ length after
+
+-- each coding that a head of the kind asks for is such
+abbrev pub HasCodings : {R V : Type 0} → Kind R V → Type 0
+HasCodings {R} {V} kind = (block : List ℕ) (cut : List ℕ → Cut R V) → kind.IsHead block (Coded cut) → IsCoding cut
 
 abbrev pub is_pair : ℕ → ℕ → Bool
 is_pair a b = (a == 13) && (b == 10)
@@ -77,44 +89,11 @@ no_block_append text more long none = λ n le ends. none n le (rw (take-append-l
 
 -- ---- what follows a head
 
-pub record CompletesAfter {R V : Type 0} (a : Asks R V) (after : List ℕ) (v : V) (rest : List ℕ) : Type 0 where
-  pub size : ℕ
-  pub message : List ℕ → V
-  pub asks_is : a ≡ Body size message
-  pub within : size ≤ length after
-  pub v_is : v ≡ message (take size after)
-  pub rest_is : rest ≡ drop size after
-
-pub after_complete : {R V : Type 0} (a : Asks R V) (after : List ℕ) (v : V) (rest : List ℕ) → Complete v rest ≡ cut_after a after → CompletesAfter a after v rest
-after_complete (Refusal r) after v rest e = absurd (cc)
-after_complete {R = R} {V = V} (Body n message) after v rest e = by_test (nat_lt (length after) n) refl
-  where
-    by_test : (t : Bool) → nat_lt (length after) n ≡ t → CompletesAfter {R = R} (Body n message) after v rest
-    by_test true short = absurd (let same : Complete v rest ≡ Incomplete = rw short at e in cc)
-    by_test false enough =
-        let same : Complete v rest ≡ Complete (message (take n after)) (drop n after) = rw enough at e in
-        record {
-          size = n;
-          message = message;
-          asks_is = refl;
-          within = grind (arith, nat_tests);
-          v_is = cc;
-          rest_is = cc;
-        }
-
 pub after_complete_intro : {R V : Type 0} (n : ℕ) (message : List ℕ → V) (after : List ℕ) → n ≤ length after
     → cut_after {R = R} (Body n message) after ≡ Complete (message (take n after)) (drop n after)
 after_complete_intro n message after le =
     let enough : nat_lt (length after) n ≡ false = grind (arith, nat_tests) in
     rw enough refl
-
-pub after_refused : {R V : Type 0} (a : Asks R V) (after : List ℕ) (r : R) → Refused r ≡ cut_after a after → a ≡ Refusal r
-after_refused (Refusal s) after r e = cc
-after_refused (Body n message) after r e = by_test (nat_lt (length after) n) refl
-  where
-    by_test : (t : Bool) → nat_lt (length after) n ≡ t → Body n message ≡ Refusal r
-    by_test true short = absurd (let same : Refused r ≡ Incomplete = rw short at e in cc)
-    by_test false enough = absurd (let same : Refused r ≡ Complete (message (take n after)) (drop n after) = rw enough at e in cc)
 
 -- ---- more bytes
 
@@ -132,38 +111,61 @@ unblocked_refused kind text r e = by_test (nat_lt (length text) most_head) refl
     by_test true short = absurd (let same : Refused r ≡ Incomplete = rw short at e in cc)
     by_test false long = let same : Refused r ≡ Refused kind.too_large = rw long at e in (grind (arith, nat_tests), cc)
 
-pub complete_more : {R V : Type 0} (a : Asks R V) (after more : List ℕ) (v : V) (rest : List ℕ) → CompletesAfter a after v rest
-    → Complete v (rest ++ more) ≡ cut_after a (after ++ more)
-complete_more a after more v rest h =
-    let fits : h.size ≤ length (after ++ more) = omega (arith, h.within, length-append after more) in
-    let front : take h.size (after ++ more) ≡ take h.size after = take-append-le h.size after more h.within in
-    let back : drop h.size (after ++ more) ≡ drop h.size after ++ more = drop-append-le h.size after more h.within in
-    ap (λ x. Complete x (rest ++ more)) (h.v_is ∙ ap h.message (sym front))
-    ∙ ap (λ r. Complete (h.message (take h.size (after ++ more))) r) (ap (λ r. r ++ more) h.rest_is ∙ sym back)
-    ∙ sym (after_complete_intro h.size h.message (after ++ more) fits)
-    ∙ ap (λ x. cut_after x (after ++ more)) (sym h.asks_is)
+-- a body of so many bytes
+body_more : {R V : Type 0} (n : ℕ) (message : List ℕ → V) (after more : List ℕ) (v : V) (rest : List ℕ)
+    → ◌≡◌ {A = Cut R V} (Complete v rest) (cut_after (Body n message) after)
+    → ◌≡◌ {A = Cut R V} (Complete v (rest ++ more)) (cut_after (Body n message) (after ++ more))
+body_more {R = R} {V = V} n message after more v rest e = by_test (nat_lt (length after) n) refl
+  where
+    by_test : (t : Bool) → nat_lt (length after) n ≡ t → ◌≡◌ {A = Cut R V} (Complete v (rest ++ more)) (cut_after (Body n message) (after ++ more))
+    by_test true short = absurd (let same : ◌≡◌ {A = Cut R V} (Complete v rest) Incomplete = rw short at e in cc)
+    by_test false enough =
+        let same : ◌≡◌ {A = Cut R V} (Complete v rest) (Complete (message (take n after)) (drop n after)) = rw enough at e in
+        let within : n ≤ length after = grind (arith, nat_tests) in
+        let v_is : v ≡ message (take n after) = cc in
+        let rest_is : rest ≡ drop n after = cc in
+        let first : ◌≡◌ {A = Cut R V} (Complete v (rest ++ more)) (Complete (message (take n (after ++ more))) (rest ++ more)) =
+        ap (λ x. Complete x (rest ++ more)) (v_is ∙ ap message (sym (take-append-le n after more within))) in
+        first
+        ∙ ap (Complete (message (take n (after ++ more)))) (ap (λ r. r ++ more) rest_is ∙ sym (drop-append-le n after more within))
+        ∙ sym (after_complete_intro n message (after ++ more) (omega (arith, length-append after more)))
 
-pub text_complete : {R V : Type 0} (kind : Kind R V) (text more : List ℕ) (v : V) (rest : List ℕ)
-    → IsCutText kind text (Complete v rest) → IsCutText kind (text ++ more) (Complete v (rest ++ more))
-text_complete kind text more v rest (without_block none e) = absurd (unblocked_incomplete kind text v rest e)
-text_complete kind text more v rest (without_head n b other e) = absurd (cc)
-text_complete kind text more v rest (with_head n a b head e) =
-    let h = after_complete a (drop n text) v rest e in
-    with_head n a (block_append text more n b) (rw (take-append-le n text more b.within) head)
-    (complete_more a (drop n text) more v rest h ∙ ap (cut_after a) (sym (drop-append-le n text more b.within)))
+module _ {R V : Type 0} (kind : Kind R V) (codings : HasCodings kind) where
+  -- behind a head that asks for it
+  complete_more : (block : List ℕ) (a : Asks R V) (after more : List ℕ) (v : V) (rest : List ℕ) → kind.IsHead block a → Complete v rest ≡ cut_after a after
+      → Complete v (rest ++ more) ≡ cut_after a (after ++ more)
+  complete_more block (Refusal r) after more v rest head e = absurd (cc)
+  complete_more block (Body n message) after more v rest head e = body_more {R = R} n message after more v rest e
+  complete_more block (Coded cut) after more v rest head e = (codings block cut head).complete after more v rest e
 
-pub text_refused : {R V : Type 0} (kind : Kind R V) (text more : List ℕ) (r : R)
-    → IsCutText kind text (Refused r) → IsCutText kind (text ++ more) (Refused r)
-text_refused kind text more r (without_block none e) =
-    let h = unblocked_refused kind text r e in
-    let longer : most_head ≤ length (text ++ more) = omega (arith, h.0, length-append text more) in
-    let long : nat_lt (length (text ++ more)) most_head ≡ false = grind (arith, nat_tests) in
-    without_block (no_block_append text more h.0 none) (rw (long, h.1) refl)
-text_refused kind text more r (without_head n b other e) =
-    without_head n (block_append text more n b) (rw (take-append-le n text more b.within) other) e
-text_refused kind text more r (with_head n a b head e) =
-    with_head n a (block_append text more n b) (rw (take-append-le n text more b.within) head)
-    (rw (after_refused a (drop n text) r e) refl)
+  refused_more : (block : List ℕ) (a : Asks R V) (after more : List ℕ) (r : R) → kind.IsHead block a → Refused r ≡ cut_after a after
+      → Refused r ≡ cut_after a (after ++ more)
+  refused_more block (Refusal s) after more r head e = e
+  refused_more block (Body n message) after more r head e = by_test (nat_lt (length after) n) refl
+    where
+      by_test : (t : Bool) → nat_lt (length after) n ≡ t → ◌≡◌ {A = Cut R V} (Refused r) (cut_after (Body n message) (after ++ more))
+      by_test true short = absurd (let same : ◌≡◌ {A = Cut R V} (Refused r) Incomplete = rw short at e in cc)
+      by_test false enough = absurd (let same : ◌≡◌ {A = Cut R V} (Refused r) (Complete (message (take n after)) (drop n after)) = rw enough at e in cc)
+  refused_more block (Coded cut) after more r head e = (codings block cut head).refused after more r e
+
+  text_complete : (text more : List ℕ) (v : V) (rest : List ℕ) → IsCutText kind text (Complete v rest) → IsCutText kind (text ++ more) (Complete v (rest ++ more))
+  text_complete text more v rest (without_block none e) = absurd (unblocked_incomplete kind text v rest e)
+  text_complete text more v rest (without_head n b other e) = absurd (cc)
+  text_complete text more v rest (with_head n a b head e) =
+      with_head n a (block_append text more n b) (rw (take-append-le n text more b.within) head)
+      (complete_more (take n text) a (drop n text) more v rest head e ∙ ap (cut_after a) (sym (drop-append-le n text more b.within)))
+
+  text_refused : (text more : List ℕ) (r : R) → IsCutText kind text (Refused r) → IsCutText kind (text ++ more) (Refused r)
+  text_refused text more r (without_block none e) =
+      let h = unblocked_refused kind text r e in
+      let longer : most_head ≤ length (text ++ more) = omega (arith, h.0, length-append text more) in
+      let long : nat_lt (length (text ++ more)) most_head ≡ false = grind (arith, nat_tests) in
+      without_block (no_block_append text more h.0 none) (rw (long, h.1) refl)
+  text_refused text more r (without_head n b other e) =
+      without_head n (block_append text more n b) (rw (take-append-le n text more b.within) other) e
+  text_refused text more r (with_head n a b head e) =
+      with_head n a (block_append text more n b) (rw (take-append-le n text more b.within) head)
+      (refused_more (take n text) a (drop n text) more r head e ∙ ap (cut_after a) (sym (drop-append-le n text more b.within)))
 
 -- ---- a kind whose heads ask for one thing each
 
@@ -198,18 +200,18 @@ text_refused_long kind text r (without_head n b other e) = omega (arith, block_l
 text_refused_long kind text r (with_head n a b head e) = omega (arith, block_long text n b, b.within)
 
 -- a message stays as it was cut
-pub kind_complete_append : {R V : Type 0} (kind : Kind R V) (text more : List ℕ) (v : V) (rest : List ℕ)
+pub kind_complete_append : {R V : Type 0} (kind : Kind R V) → HasCodings kind → (text more : List ℕ) (v : V) (rest : List ℕ)
     → IsCut kind text (Complete v rest) → IsCut kind (text ++ more) (Complete v (rest ++ more))
-kind_complete_append kind text more v rest cut =
+kind_complete_append kind codings text more v rest cut =
     let long = text_complete_long kind (skip_pairs text) v rest cut in
-    rw (skip_long text more long) (text_complete kind (skip_pairs text) more v rest cut)
+    rw (skip_long text more long) (text_complete kind codings (skip_pairs text) more v rest cut)
 
 -- so does a refusal
-pub kind_refused_append : {R V : Type 0} (kind : Kind R V) (text more : List ℕ) (r : R)
+pub kind_refused_append : {R V : Type 0} (kind : Kind R V) → HasCodings kind → (text more : List ℕ) (r : R)
     → IsCut kind text (Refused r) → IsCut kind (text ++ more) (Refused r)
-kind_refused_append kind text more r cut =
+kind_refused_append kind codings text more r cut =
     let long = text_refused_long kind (skip_pairs text) r cut in
-    rw (skip_long text more long) (text_refused kind (skip_pairs text) more r cut)
+    rw (skip_long text more long) (text_refused kind codings (skip_pairs text) more r cut)
 
 -- nothing is cut off no bytes
 pub kind_empty : {R V : Type 0} (kind : Kind R V) → IsCut kind [] Incomplete

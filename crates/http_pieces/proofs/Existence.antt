@@ -3,12 +3,13 @@ use Rattle.std.proofs.Common.{◌≡◌, ℕ, zero, suc, ◌<◌, ◌≤◌, Boo
 use Rattle.std.specs.Prelude.{MatchBool, nat_lt, if◌then◌else◌}
 use Rattle.std.proofs.lemmas.Bool.{cases_lt}
 use Rattle.std.proofs.lemmas.List.{take_all, length-append, length-take, length-drop}
-use Rattle.http_pieces.specs.Cut.{Cut, Incomplete, Refused, Complete, Refusal, Body, Kind, IsBlock, EndsInEmptyLine, IsCut, IsCutText, without_block, without_head, with_head, cut_unblocked, cut_after, most_head, skip_pairs}
+use Rattle.http_pieces.specs.Cut.{Coded, Cut, Incomplete, Refused, Complete, Refusal, Body, Kind, IsBlock, EndsInEmptyLine, IsCut, IsCutText, without_block, without_head, with_head, cut_unblocked, cut_after, most_head, skip_pairs}
 use Rattle.http_pieces.specs.Head.{request_kind}
 use Rattle.http_pieces.specs.Request.{HttpRequest, closes}
 use Rattle.http_pieces.specs.Requests.{StreamEnd, Open, RefusedBy, Closed, unfinished, broken, Requests}
 use Rattle.http_pieces.specs.declared.refusal.Refusal.{Refusal as RequestRefusal}
-use Rattle.http_pieces.proofs.CutLemmas.{skip_shorter}
+use Rattle.http_pieces.proofs.Codings.{request_codings}
+use Rattle.http_pieces.proofs.CutLemmas.{HasCodings, skip_shorter}
 
 -- where no prefix is the block, none below the limit ends in an empty line
 no_ending : (text : List ℕ) → ((n : ℕ) → IsBlock text n → ⊥) → (bound n : ℕ) → n < bound → n ≤ most_head → EndsInEmptyLine (take n text) → ⊥
@@ -49,17 +50,21 @@ rest_is : {R V : Type 0} (c : Cut R V) (q m : V) (rest left : List ℕ) (b : Boo
 rest_is c q m rest left true is e = absurd (cc)
 rest_is c q m rest left false is e = cc
 
-text_shorter : {R V : Type 0} (kind : Kind R V) (text : List ℕ) (c : Cut R V) (q : V) (rest : List ℕ) → c ≡ Complete q rest → IsCutText kind text c → length rest < length text
-text_shorter kind text c q rest is (without_block b e) = absurd (not_unblocked c q rest kind.too_large (nat_lt (length text) most_head) is e)
-text_shorter kind text c q rest is (without_head n b none e) = absurd (cc)
-text_shorter kind text c q rest is (with_head n (Refusal r) b h e) = absurd (cc)
-text_shorter kind text c q rest is (with_head n (Body m message) b h e) =
+text_shorter : {R V : Type 0} (kind : Kind R V) → HasCodings kind → (text : List ℕ) (c : Cut R V) (q : V) (rest : List ℕ) → c ≡ Complete q rest → IsCutText kind text c
+    → length rest < length text
+text_shorter kind codings text c q rest is (without_block b e) = absurd (not_unblocked c q rest kind.too_large (nat_lt (length text) most_head) is e)
+text_shorter kind codings text c q rest is (without_head n b none e) = absurd (cc)
+text_shorter kind codings text c q rest is (with_head n (Refusal r) b h e) = absurd (cc)
+text_shorter kind codings text c q rest is (with_head n (Body m message) b h e) =
     let same : rest ≡ drop m (drop n text) =
     rest_is c q (message (take m (drop n text))) rest (drop m (drop n text)) (nat_lt (length (drop n text)) m) is e in
     omega (arith, ap length same, length-drop m (drop n text), length-drop n text, four text n b.ends, length-take n text)
+text_shorter kind codings text c q rest is (with_head n (Coded cut) b h e) =
+    let within = (codings (take n text) cut h).within (drop n text) q rest (sym is ∙ e) in
+    omega (arith, within, length-drop n text, four text n b.ends, length-take n text)
 
-pub cut_shorter : {R V : Type 0} (kind : Kind R V) (text : List ℕ) (q : V) (rest : List ℕ) → IsCut kind text (Complete q rest) → length rest < length text
-cut_shorter kind text q rest cut = omega (arith, text_shorter kind (skip_pairs text) (Complete q rest) q rest refl cut, skip_shorter text)
+pub cut_shorter : {R V : Type 0} (kind : Kind R V) → HasCodings kind → (text : List ℕ) (q : V) (rest : List ℕ) → IsCut kind text (Complete q rest) → length rest < length text
+cut_shorter kind codings text q rest cut = omega (arith, text_shorter kind codings (skip_pairs text) (Complete q rest) q rest refl cut, skip_shorter text)
 
 -- ---- requests
 
@@ -86,7 +91,7 @@ requests_below (suc bound) k text lt none =
             none (q ∷ []) Closed
             (rest, cut, subst (λ b. MatchBool b ((nothing ≡ []) × (Closed ≡ Closed)) (Requests (suc k) rest [] Closed)) (sym b_is) (refl, refl))
         by_closing false b_is =
-            more rest (cut_shorter (request_kind k) text q rest cut)
+            more rest (cut_shorter (request_kind k) (request_codings k) text q rest cut)
             (λ given ending requests. none (q ∷ given) ending
             (rest, cut, subst (λ b. MatchBool b ((given ≡ []) × (ending ≡ Closed)) (Requests (suc k) rest given ending)) (sym b_is) requests))
 

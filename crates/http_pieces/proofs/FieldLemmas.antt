@@ -5,7 +5,7 @@ use Rattle.std.proofs.lemmas.Bool.Decides.{nat_tests}
 use Rattle.std.specs.Char.{to_ascii_lowercase}
 use Rattle.std.specs.List.{position_or_len, position}
 use Rattle.std.specs.Cmp.Lexicographic.{pointwise}
-use Rattle.http_pieces.specs.Fields.{NamedValue, same_without_case, values_of, comma_parts, is_close, has_close, IsFieldOf}
+use Rattle.http_pieces.specs.Fields.{NamedValue, same_without_case, values_of, comma_parts, is_option, has_option, IsFieldOf}
 use Rattle.http_pieces.specs.declared.field.Field.{Field}
 use Rattle.http_pieces.specs.declared.field.Field.TheVariants as field
 use Rattle.std.specs.Borrow.{Bor}
@@ -100,34 +100,35 @@ cut_at xs i e =
 pub cut_nowhere : (xs : List ℕ) → position is_comma xs ≡ None → comma_parts xs ≡ xs ∷ []
 cut_nowhere xs e = (comma_cut xs).none (position_none xs e)
 
-pub has_close_last : (xs part : List ℕ) → comma_parts xs ≡ part ∷ [] → has_close xs ≡ is_close part
-unfolding has_close
-has_close_last xs part e = rw e (or-false _)
+pub has_option_last : (name xs part : List ℕ) → comma_parts xs ≡ part ∷ [] → has_option name xs ≡ is_option name part
+unfolding has_option
+has_option_last name xs part e = rw e (or-false _)
 
-pub has_close_step : (xs part rest : List ℕ) → comma_parts xs ≡ part ∷ comma_parts rest → has_close xs ≡ (is_close part || has_close rest)
-unfolding has_close
-has_close_step xs part rest e = rw e refl
+pub has_option_step : (name xs part rest : List ℕ) → comma_parts xs ≡ part ∷ comma_parts rest → has_option name xs ≡ (is_option name part || has_option name rest)
+unfolding has_option
+has_option_step name xs part rest e = rw e refl
 
 pub values_step : (name : List ℕ) (f : HeaderSpan → NamedValue) (hs : List HeaderSpan) (i : ℕ) (d : HeaderSpan) → i < length hs
     → values_of name (map f (drop i hs))
     ≡ cond (same_without_case (f (get_or hs i d)).0 name) ((f (get_or hs i d)).1 ∷ values_of name (map f (drop (i + 1) hs))) (values_of name (map f (drop (i + 1) hs)))
 values_step name f hs i d lt = rw (drop_more hs i d lt) refl
 
--- an option that is `close` decides
-pub has_close_found : (xs part : List ℕ) (o : Option (Bor (List ℕ)))
+-- an option of the name decides
+pub has_option_found : (name xs part : List ℕ) (o : Option (Bor (List ℕ)))
     → MatchOption o (comma_parts xs ≡ part ∷ []) (λ after. comma_parts xs ≡ part ∷ comma_parts after.now)
-    → is_close part ≡ true → has_close xs ≡ true
-has_close_found xs part None e decided = has_close_last xs part e ∙ decided
-has_close_found xs part (Some after) e decided = has_close_step xs part after.now e ∙ ap (λ t. t || has_close after.now) decided
+    → is_option name part ≡ true → has_option name xs ≡ true
+has_option_found name xs part None e decided = has_option_last name xs part e ∙ decided
+has_option_found name xs part (Some after) e decided =
+    has_option_step name xs part after.now e ∙ ap (λ t. t || has_option name after.now) decided
 
 -- another leaves it to what follows its comma
-pub has_close_left : (xs part : List ℕ) (o : Option (Bor (List ℕ))) (after : Bor (List ℕ))
+pub has_option_left : (name xs part : List ℕ) (o : Option (Bor (List ℕ))) (after : Bor (List ℕ))
     → MatchOption o (comma_parts xs ≡ part ∷ []) (λ later. comma_parts xs ≡ part ∷ comma_parts later.now)
-    → is_close part ≡ false → o ≡ Some after → has_close xs ≡ has_close after.now
-has_close_left xs part None after e other some = absurd (cc)
-has_close_left xs part (Some later) after e other some =
+    → is_option name part ≡ false → o ≡ Some after → has_option name xs ≡ has_option name after.now
+has_option_left name xs part None after e other some = absurd (cc)
+has_option_left name xs part (Some later) after e other some =
     let same : later ≡ after = cc in
-    has_close_step xs part later.now e ∙ ap (λ t. t || has_close later.now) other ∙ ap (λ x. has_close x.now) same
+    has_option_step name xs part later.now e ∙ ap (λ t. t || has_option name later.now) other ∙ ap (λ x. has_option name x.now) same
 
 -- what is found after one more value of the name
 pub found_first : (front : List (List ℕ)) (found : Field) (value : Bor (List ℕ)) (rest all : List (List ℕ)) → IsFieldOf front found → found ≡ field.None

@@ -4,22 +4,27 @@ use Rattle.std.proofs.lemmas.Bool.Decides.{nat_tests}
 use Rattle.std.proofs.lemmas.List.{length-drop, take_all, drop_all, take-append-drop, take-append-le, length-append}
 use Rattle.http_pieces.specs.Cut.{Cut, Incomplete, Refused, Complete, Body, Refusal, Kind, skip_pairs, most_head, IsBlock, HasNoBlock, IsCutText, without_block, without_head, with_head, cut_after, IsCut}
 use Rattle.http_pieces.specs.Form.{Form, IsHeadOf, IsRefused, as_head, as_none, IsOpenBody}
-use Rattle.http_pieces.proofs.CutLemmas.{skip_long, block_trim, block_append, block_long, take_prefix, after_complete_intro}
+use Rattle.http_pieces.proofs.CutLemmas.{no_block_append, skip_long, block_trim, block_append, block_long, take_prefix, after_complete_intro}
 
 pub cut_short : {R V : Type 0} (kind : Kind R V) (text : List ℕ) → HasNoBlock text → length text < most_head → IsCutText kind text Incomplete
 cut_short kind text none short =
     let test : nat_lt (length text) most_head ≡ true = grind (arith, nat_tests) in
     without_block none (rw test refl)
 
-pub cut_too_large : {R V : Type 0} (kind : Kind R V) (text : List ℕ) (r : R) → HasNoBlock text → most_head ≤ length text → r ≡ kind.too_large
-    → IsCutText kind text (Refused r)
-cut_too_large kind text r none long is =
-    let test : nat_lt (length text) most_head ≡ false = grind (arith, nat_tests) in
-    without_block none (rw (test, is) refl)
+-- what is refused without its body stays so, whatever follows it
+pub cut_too_large : {R V : Type 0} (kind : Kind R V) (text more : List ℕ) (r : R) → HasNoBlock text → most_head ≤ length text → r ≡ kind.too_large
+    → IsCutText kind (text ++ more) (Refused r)
+cut_too_large kind text more r none long is =
+    let longer : most_head ≤ length (text ++ more) = omega (arith, long, length-append text more) in
+    let test : nat_lt (length (text ++ more)) most_head ≡ false = grind (arith, nat_tests) in
+    without_block (no_block_append text more long none) (rw (test, is) refl)
 
-pub cut_refused : {R V : Type 0} (kind : Kind R V) (text : List ℕ) (n : ℕ) (r : R) → IsBlock text n → IsRefused kind (take n text) r → IsCutText kind text (Refused r)
-cut_refused kind text n r block (as_head asks) = with_head n (Refusal r) block asks refl
-cut_refused kind text n r block (as_none none is) = without_head n block none (ap Refused is)
+pub cut_refused : {R V : Type 0} (kind : Kind R V) (text more : List ℕ) (n : ℕ) (r : R) → IsBlock text n → IsRefused kind (take n text) r
+    → IsCutText kind (text ++ more) (Refused r)
+cut_refused kind text more n r block (as_head asks) =
+    with_head n (Refusal r) (block_append text more n block) (rw (take-append-le n text more block.within) asks) refl
+cut_refused kind text more n r block (as_none none is) =
+    without_head n (block_append text more n block) (rw (take-append-le n text more block.within) none) (ap Refused is)
 
 module _ {R H V : Type 0} (form : Form R H V) where
   pub cut_no_body : (text : List ℕ) (n k size : ℕ) (head : H) → IsBlock text n → IsHeadOf form (take n text) head size → length text - n < size

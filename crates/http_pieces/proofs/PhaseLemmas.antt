@@ -9,7 +9,7 @@ use Rattle.http_pieces.specs.declared.scan.Scan.{Scan}
 use Rattle.http_pieces.specs.Cut.{Cut, Incomplete, Refused, Complete, IsSingle, IsBlock, skip_pairs, IsCutText, IsCut, most_head}
 use Rattle.http_pieces.specs.Form.{Form, IsHeadOf, IsRefused, JudgesTo, IsOpenBody, IsPhaseSound, IsMore, GrowsTo, Grows, Advances, Pushes, filled}
 use Rattle.http_pieces.specs.Scan.{IsScanned, IsScannedTo, held}
-use Rattle.http_pieces.proofs.CutLemmas.{skip_append, kind_unique, kind_complete_append, kind_refused_append}
+use Rattle.http_pieces.proofs.CutLemmas.{HasCodings, block_long, skip_append, skip_long, kind_unique, kind_complete_append}
 use Rattle.http_pieces.proofs.FormLemmas.{cut_short, cut_too_large, cut_refused, open_short, open_whole, open_in, open_more}
 use Rattle.http_pieces.proofs.ScanLemmas.{head_none, head_open}
 
@@ -46,15 +46,18 @@ module _ {R H V : Type 0} (form : Form R H V) where
       by_phase (phase.Complete head body) to = λ k. cut_on k (Complete (form.message after head body k) []) (to k)
       by_phase phase.Ended to = to
 
-  -- a refusal of some first bytes
-  pub refused_grows : (before piece after : List ℕ) (seen : ℕ) (r : R) → seen ≤ length piece → ((k : ℕ) → IsCut (form.kind k) (before ++ take seen piece) (Refused r))
-      → Grows form before piece after (length piece) (phase.Refused r)
-  refused_grows before piece after seen r le cut =
+  -- a refusal of some first bytes, whatever follows them
+  pub refused_grows : (before piece after text : List ℕ) (seen : ℕ) (r : R) → skip_pairs (before ++ take seen piece) ≡ text → 2 ≤ length text
+      → ((k : ℕ) (more : List ℕ) → IsCutText (form.kind k) (text ++ more) (Refused r)) → Grows form before piece after (length piece) (phase.Refused r)
+  refused_grows before piece after text seen r text_is long cut =
       let parts : before ++ take seen piece ++ drop seen piece ≡ before ++ take (length piece) piece =
       append_assoc before (take seen piece) (drop seen piece) ∙ ap (λ t. before ++ t) (take-append-drop seen piece ∙ sym (take-length piece)) in
+      let skipped : skip_pairs (before ++ take (length piece) piece) ≡ text ++ drop seen piece =
+      ap skip_pairs (sym parts) ∙ skip_long (before ++ take seen piece) (drop seen piece) (omega (arith, long, ap length text_is))
+      ∙ ap (λ t. t ++ drop seen piece) text_is in
       record {
         within = omega arith;
-        to = (refl, λ k. subst (λ t. IsCut (form.kind k) t (Refused r)) parts (kind_refused_append (form.kind k) (before ++ take seen piece) (drop seen piece) r (cut k)));
+        to = (refl, λ k. subst (λ t. IsCutText (form.kind k) t (Refused r)) (sym skipped) (cut k (drop seen piece)));
         sound = tt;
       }
 
@@ -63,9 +66,8 @@ module _ {R H V : Type 0} (form : Form R H V) where
       → ((k : ℕ) → r ≡ (form.kind k).too_large) → Grows form before piece after (length piece) (phase.Refused r)
   too_large_grows before piece after scan r to not_four size is =
       let none = head_none (held before piece scan) scan.matched to.head (head_open (held before piece scan) scan.matched to.head not_four) in
-      refused_grows before piece after scan.seen r to.within
-      (λ k. subst (λ t. IsCutText (form.kind k) t (Refused r)) (sym to.text_is)
-      (cut_too_large (form.kind k) (held before piece scan) r none (omega (arith, to.size_is)) (is k)))
+      refused_grows before piece after (held before piece scan) scan.seen r to.text_is (omega (arith, to.size_is))
+      (λ k more. cut_too_large (form.kind k) (held before piece scan) more r none (omega (arith, to.size_is)) (is k))
 
   -- the piece ends before the head does
   pub head_grows : (before piece : List ℕ) (scan : Scan) → IsScannedTo before piece scan → (scan.matched ≡ 4 → ⊥) → (scan.size ≡ most_head → ⊥) → scan.seen ≡ length piece
@@ -115,9 +117,8 @@ module _ {R H V : Type 0} (form : Form R H V) where
   pub block_grows : (text piece : List ℕ) (r : R) → IsBlock text (length text) → skip_pairs text ≡ text → JudgesTo form text (Err r)
       → (after : List ℕ) → Grows form text piece after (length piece) (phase.Refused r)
   block_grows text piece r block unpaired refused after =
-      refused_grows text piece after 0 r (omega arith)
-      (λ k. rw append-nil (subst (λ t. IsCutText (form.kind k) t (Refused r)) (sym unpaired)
-      (cut_refused (form.kind k) text (length text) r block (subst (λ t. IsRefused (form.kind k) t r) (sym (take-length text)) (refused k)))))
+      refused_grows text piece after text 0 r (ap skip_pairs (append-nil text) ∙ unpaired) (omega (arith, block_long text (length text) block))
+      (λ k more. cut_refused (form.kind k) text more (length text) r block (subst (λ t. IsRefused (form.kind k) t r) (sym (take-length text)) (refused k)))
 
   pub block_opens : (text : List ℕ) (head : H) (size : ℕ) → IsBlock text (length text) → skip_pairs text ≡ text → IsHeadOf form text head size
       → IsOpenBody form text head (length text) size
@@ -155,9 +156,9 @@ module _ {R H V : Type 0} (form : Form R H V) where
       subst (λ w. Pushes form before w piece after next n) (sym was_is) advances
 
   -- no shorter prefix of the piece makes a whole message
-  pub advance_shortest : (k : ℕ) → IsSingle (form.kind k) → (left piece after : List ℕ) (n : ℕ) (p : Phase H R) → Advances form left piece after n p
+  pub advance_shortest : (k : ℕ) → IsSingle (form.kind k) → HasCodings (form.kind k) → (left piece after : List ℕ) (n : ℕ) (p : Phase H R) → Advances form left piece after n p
       → (m : ℕ) (q : V) (rest : List ℕ) → m < n → ¬ (IsCut (form.kind k) (left ++ take m piece) (Complete q rest))
-  advance_shortest k single left piece after n p a m q rest lt cut = by_phase p a.grows.to
+  advance_shortest k single codings left piece after n p a m q rest lt cut = by_phase p a.grows.to
     where
       tail : List ℕ
       tail = take (n - m) (drop m piece)
@@ -168,7 +169,7 @@ module _ {R H V : Type 0} (form : Form R H V) where
           append_assoc left (take m piece) tail ∙ ap (λ p. left ++ p) (sym (take-add m (n - m) piece) ∙ ap (λ x. take x piece) sum)
 
       whole : IsCut (form.kind k) (left ++ take n piece) (Complete q (rest ++ tail))
-      whole = subst (λ t. IsCut (form.kind k) t (Complete q (rest ++ tail))) longer (kind_complete_append (form.kind k) (left ++ take m piece) tail q rest cut)
+      whole = subst (λ t. IsCut (form.kind k) t (Complete q (rest ++ tail))) longer (kind_complete_append (form.kind k) codings (left ++ take m piece) tail q rest cut)
 
       by_phase : (x : Phase H R) → GrowsTo form left piece after n x → ⊥
       by_phase (phase.Head matched) to = let e = kind_unique (form.kind k) single (left ++ take n piece) (Complete q (rest ++ tail)) Incomplete whole (to.2 k) in cc

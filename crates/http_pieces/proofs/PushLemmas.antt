@@ -15,6 +15,7 @@ use Rattle.std.specs.Prelude.{Bool, if◌then◌else◌}
 use Rattle.http_pieces.specs.Reader.{Partial, Waiting, Stopped, Done, Reading, ReaderValue, HasRead, IsShortest, TakesShortest, is_over, left_of}
 use Rattle.http_pieces.specs.Looked.{Counts, HasLooked}
 use Rattle.http_pieces.specs.Layout.{request_of, request_form, request_single, reading_of, value_of}
+use Rattle.http_pieces.proofs.Codings.{request_codings}
 use Rattle.http_pieces.proofs.PhaseLemmas.{advance_shortest}
 use Rattle.http_pieces.proofs.ReaderLemmas.{ReadsTo, read_on, read_refusal, read_request, read_stopped, read_done}
 use Rattle.http_pieces.proofs.LookedLemmas.{left_in, looked_push}
@@ -92,7 +93,7 @@ module _ (k looked more : ℕ) (before piece after : List ℕ) (self : ReaderVal
 
       shortest : (n : ℕ) → Advances request_form before piece after n new → left ≡ before → IsShortest self left piece n
       shortest n a same m q rest lt cut =
-          advance_shortest request_form k (request_single k) before piece after n new a m q rest lt
+          advance_shortest request_form k (request_single k) (request_codings k) before piece after n new a m q rest lt
           (subst (λ x. IsCut (request_kind k) (x ++ take m piece) (Complete q rest)) same (subst (λ x. IsCut (request_kind x) (left ++ take m piece) (Complete q rest)) number cut))
 
       by_phase : (n : ℕ) (w : Phase Head Refusal) → reading_of before w k ≡ Partial left → Pushes request_form before w piece after new n → IsShortest self left piece n

@@ -8,6 +8,7 @@ use Rattle.http_pieces.specs.Request.{HttpRequest, closes}
 use Rattle.http_pieces.specs.Requests.{StreamEnd, Open, RefusedBy, Closed, EndsAt, unfinished, broken, Requests}
 use Rattle.http_pieces.specs.Reader.{ending_after}
 use Rattle.http_pieces.specs.Layout.{request_single}
+use Rattle.http_pieces.proofs.Codings.{request_codings}
 use Rattle.http_pieces.proofs.CutLemmas.{skip_append, kind_unique, kind_complete_append, kind_refused_append, kind_empty}
 
 -- ---- one cut
@@ -19,12 +20,12 @@ cut_unique k = kind_unique (request_kind k) (request_single k)
 -- a request stays as it was cut
 pub cut_complete_append : (k : ℕ) (text more : List ℕ) (q : HttpRequest) (rest : List ℕ)
     → IsCut (request_kind k) text (Complete q rest) → IsCut (request_kind k) (text ++ more) (Complete q (rest ++ more))
-cut_complete_append k = kind_complete_append (request_kind k)
+cut_complete_append k = kind_complete_append (request_kind k) (request_codings k)
 
 -- so does a refusal
 pub cut_refused_append : (k : ℕ) (text more : List ℕ) (r : Refusal)
     → IsCut (request_kind k) text (Refused r) → IsCut (request_kind k) (text ++ more) (Refused r)
-cut_refused_append k = kind_refused_append (request_kind k)
+cut_refused_append k = kind_refused_append (request_kind k) (request_codings k)
 
 -- ---- requests
 

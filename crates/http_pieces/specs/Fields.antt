@@ -46,14 +46,18 @@ abbrev pub comma_parts : List ℕ → List (List ℕ)
 comma_parts [] = [] ∷ []
 comma_parts (b ∷ text) = if b == 44 then [] ∷ comma_parts text else onto_first b (comma_parts text)
 
--- the option `close`, whatever its case and the blanks round it
-abbrev pub is_close : List ℕ → Bool
-is_close option = same_without_case (trim_ows option) (codes "close")
+-- the option of that name, whatever the blanks round it; options compare without case (RFC 9110, section 7.6.1)
+abbrev pub is_option : List ℕ → List ℕ → Bool
+is_option name option = same_without_case (trim_ows option) name
 
--- one of the comma-separated options of a `Connection` value is `close` (RFC 9110, section 7.6.1)
-unfoldable pub has_close : List ℕ → Bool
-has_close value = list_any is_close (comma_parts value)
+-- one of the comma-separated options of a `Connection` value has that name
+unfoldable pub has_option : List ℕ → List ℕ → Bool
+has_option name value = list_any (is_option name) (comma_parts value)
+
+-- some `Connection` field has the option of that name (RFC 9110, section 7.6.1)
+abbrev pub lists_option : List ℕ → List NamedValue → Bool
+lists_option name fields = list_any (has_option name) (values_of (codes "connection") fields)
 
 -- some `Connection` field asks for the close of the connection (RFC 9112, section 9.6)
 abbrev pub asks_to_close : List NamedValue → Bool
-asks_to_close fields = list_any has_close (values_of (codes "connection") fields)
+asks_to_close fields = lists_option (codes "close") fields

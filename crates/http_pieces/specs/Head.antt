@@ -10,10 +10,11 @@ use Rattle.http_pieces.specs.Cut.{Asks, Refusal as RefusalAsked, Body, Kind}
 use Rattle.http_pieces.specs.Fields.{NamedValue, values_of, decimal}
 use Rattle.http_pieces.specs.Request.{HttpRequest}
 
--- a head has at most so many fields, and a body so many bytes (this project's choices)
+-- a head has at most so many fields (this project's choice)
 abbrev pub most_fields : ℕ
 most_fields = 64
 
+-- a body has at most so many bytes (this project's choice)
 abbrev pub most_body : ℕ
 most_body = 65536
 

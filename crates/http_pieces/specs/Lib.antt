@@ -1,9 +1,13 @@
+pub mod Bytes
+pub mod Chunked
+pub mod Chunks
 pub mod Cut
 pub mod Fields
 pub mod Form
 pub mod Head
 pub mod Layout
 pub mod Looked
+pub mod Names
 pub mod ReplyHead
 pub mod ReplyLayout
 pub mod ReplyReader

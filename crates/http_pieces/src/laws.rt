@@ -1,13 +1,17 @@
 //! What the definitions of this crate come to, as facts on all texts. The functions do nothing.
-ghost use Rattle.std.specs.Prelude.{◌≡◌, ℕ, ◌+◌, ◌*◌, ◌≤◌, List, [], ◌++◌, length, None};
-ghost use Rattle.http_pieces.specs.Cut.{Cut, Refused, Complete, IsBlock, IsCut};
+ghost use Rattle.std.specs.Prelude.{◌≡◌, ℕ, ◌+◌, ◌*◌, ◌<◌, ◌≤◌, List, [], ◌++◌, length, None};
+ghost use Rattle.http_pieces.specs.Chunked.{IsInChunks};
+ghost use Rattle.http_pieces.specs.Chunks.{cut_chunks};
+ghost use Rattle.http_pieces.specs.Cut.{Cut, Incomplete, Refused, Complete, IsBlock, IsCut};
 ghost use Rattle.http_pieces.specs.Head.{request_kind};
 ghost use Rattle.http_pieces.specs.Looked.{IsLookedAt};
 ghost use Rattle.http_pieces.specs.Reader.{HasRead, reader_value, Partial};
 ghost use Rattle.http_pieces.specs.ReplyHead.{reply_kind};
-ghost use Rattle.http_pieces.specs.ReplyReader.{HasReadReply, reply_reader_value, Partial as ReplyPartial};
+ghost use Rattle.http_pieces.specs.ReplyReader.{HasReadReply, reader_framing, Partial as ReplyPartial};
 ghost use Rattle.http_pieces.specs.Request.{HttpRequest};
 ghost use Rattle.http_pieces.specs.Requests.{StreamEnd, Open, RefusedBy, Closed, Requests};
+ghost use Rattle.http_pieces.specs.declared.chunk_parts.ChunkFault.{ChunkFault};
+ghost use Rattle.http_pieces.specs.declared.framing.Framing.{Framing};
 ghost use Rattle.http_pieces.specs.declared.refusal.Refusal.{Refusal};
 ghost use Rattle.http_pieces.specs.declared.reply.HttpReply.{HttpReply};
 ghost use Rattle.http_pieces.specs.declared.reply_fault.ReplyFault.{ReplyFault};
@@ -31,12 +35,24 @@ pub fn cut_law()
 
 /// A text is cut in one way into a reply or a fault. More bytes never change the one or the other.
 pub fn reply_cut_law()
-    ensures unique { (text : List ℕ) (c d : Cut ReplyFault HttpReply)
-        → IsCut reply_kind text c → IsCut reply_kind text d → c ≡ d }
-    ensures reply_stays { (text more : List ℕ) (q : HttpReply) (rest : List ℕ)
-        → IsCut reply_kind text (Complete q rest) → IsCut reply_kind (text ++ more) (Complete q (rest ++ more)) }
-    ensures fault_stays { (text more : List ℕ) (f : ReplyFault)
-        → IsCut reply_kind text (Refused f) → IsCut reply_kind (text ++ more) (Refused f) }
+    ensures unique { (framing : Framing) (text : List ℕ) (c d : Cut ReplyFault HttpReply)
+        → IsCut (reply_kind framing) text c → IsCut (reply_kind framing) text d → c ≡ d }
+    ensures reply_stays { (framing : Framing) (text more : List ℕ) (q : HttpReply) (rest : List ℕ)
+        → IsCut (reply_kind framing) text (Complete q rest)
+        → IsCut (reply_kind framing) (text ++ more) (Complete q (rest ++ more)) }
+    ensures fault_stays { (framing : Framing) (text more : List ℕ) (f : ReplyFault)
+        → IsCut (reply_kind framing) text (Refused f) → IsCut (reply_kind framing) (text ++ more) (Refused f) }
+{}
+
+/// A body is cut out of its chunks exactly where the grammar of RFC 9112, section 7.1 writes it within this
+/// project's limits. What is refused is the front of none.
+pub fn chunks_law()
+    ensures written { (text body rest : List ℕ) → cut_chunks text ≡ Complete body rest → IsInChunks text body rest }
+    ensures cut { (text body rest : List ℕ) → IsInChunks text body rest → cut_chunks text ≡ Complete body rest }
+    ensures refused { (text more : List ℕ) (f : ChunkFault) → cut_chunks text ≡ Refused f
+        → (body rest : List ℕ) → ¬ (IsInChunks (text ++ more) body rest) }
+    ensures incomplete { (text more body : List ℕ) → 0 < length more → IsInChunks (text ++ more) body []
+        → cut_chunks text ≡ Incomplete }
 {}
 
 /// A text has one list of requests, and more bytes add to it what they add to the bytes left over.
@@ -64,13 +80,14 @@ pub fn looked_law()
 /// A reader of a stream that has not begun has read nothing of it, and has looked at nothing.
 pub fn fresh_law()
     ensures requests { HasRead (reader_value 0 (Partial [])) [] [] }
-    ensures reply { HasReadReply (reply_reader_value (ReplyPartial [])) [] None }
+    ensures reply { (framing : Framing) → HasReadReply (reader_framing framing (ReplyPartial [])) [] None }
 {}
 
 /// Every text is cut into something, and has a list of requests. (There can't be none: a head's grammar is a relation,
 /// so that no head is computed here.)
 pub fn existence_law()
     ensures cut { (k : ℕ) (text : List ℕ) → ¬ ((c : Cut Refusal HttpRequest) → ¬ (IsCut (request_kind k) text c)) }
-    ensures reply_cut { (text : List ℕ) → ¬ ((c : Cut ReplyFault HttpReply) → ¬ (IsCut reply_kind text c)) }
+    ensures reply_cut { (framing : Framing) (text : List ℕ)
+        → ¬ ((c : Cut ReplyFault HttpReply) → ¬ (IsCut (reply_kind framing) text c)) }
     ensures requests { (k : ℕ) (text : List ℕ) → ¬ ((given : List HttpRequest) (ending : StreamEnd) → ¬ (Requests k text given ending)) }
 {}

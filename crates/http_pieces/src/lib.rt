@@ -6,22 +6,29 @@
 #![tactic(auto)]
 
 mod blanks;
-mod bytes;
+mod byte_string;
 mod case;
+mod chunk_parts;
+mod chunks;
 mod decimal;
+mod decoding;
 mod field;
+mod fields;
+mod framing;
 mod head;
 mod largest;
 pub mod laws;
 mod looked;
 mod lookup;
 mod message;
+mod names;
 mod phase;
 mod reader;
 mod refusal;
 mod reply;
 mod reply_fault;
 mod reply_head;
+mod reply_push;
 mod reply_reader;
 mod reply_state;
 mod request;
@@ -31,11 +38,14 @@ mod text;
 mod version;
 
 pub use blanks::trim_blanks;
-pub use bytes::Bytes;
+pub use byte_string::Bytes;
 pub use case::same_without_case;
 pub use decimal::read_decimal;
 pub use field::Field;
+pub use fields::Fields;
+pub use framing::Framing;
 pub use largest::MAX_DECIMAL;
+pub use names::same_name;
 pub use reader::Reader;
 pub use refusal::Refusal;
 pub use reply::HttpReply;

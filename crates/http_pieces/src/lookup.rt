@@ -1,6 +1,6 @@
 ghost use Rattle.std.specs.Prelude.{◌≡◌, ◌<◌, ◌==◌, ◌≤◌, ◌∷◌, [], map, length, position, All, IfSome, MatchOption};
 ghost use Rattle.httparse.specs.Spans.{IsHeaderWithin, header_bytes};
-ghost use Rattle.http_pieces.specs.Fields.{values_of, IsFieldOf, same_without_case, comma_parts, is_close, has_close, asks_to_close};
+ghost use Rattle.http_pieces.specs.Fields.{values_of, IsFieldOf, same_without_case, comma_parts, is_option, has_option, lists_option};
 
 use crate::blanks::trim_blanks;
 use crate::field::Field;
@@ -32,28 +32,28 @@ fn is_named(bytes: &[u8], header: &HeaderSpan, name: &[u8]) -> bool
     header.name.of(bytes).eq_ignore_ascii_case(name)
 }
 
-/// Whether some `Connection` field has the option `close`.
-pub(crate) fn any_close(bytes: &[u8], headers: &[HeaderSpan]) -> bool
+/// Whether some `Connection` field has the option of that name.
+pub(crate) fn lists_option(bytes: &[u8], headers: &[HeaderSpan], name: &[u8]) -> bool
     requires { All (IsHeaderWithin (length bytes.now)) headers.now }
-    ensures { result ≡ asks_to_close (map (header_bytes bytes.now) headers.now) }
+    ensures { result ≡ lists_option name.now (map (header_bytes bytes.now) headers.now) }
 {
     for header in headers {
-        if is_named(bytes, header, b"connection") && lists_close(header.value.of(bytes)) {
+        if is_named(bytes, header, b"connection") && has_option(header.value.of(bytes), name) {
             return true;
         }
     }
     false
 }
 
-/// Whether one of the comma-separated options is `close`.
-#[tactic(auto, using(crate::proofs::FieldLemmas::has_close_last, crate::proofs::FieldLemmas::has_close_step))]
-fn lists_close(value: &[u8]) -> bool
-    ensures { result ≡ has_close value.now }
+/// Whether one of the comma-separated options has that name.
+#[tactic(auto, using(crate::proofs::FieldLemmas::has_option_last, crate::proofs::FieldLemmas::has_option_step))]
+fn has_option(value: &[u8], name: &[u8]) -> bool
+    ensures { result ≡ has_option name.now value.now }
 {
     let mut rest = value;
     'options: loop {
         let (option, after) = next_option(rest);
-        if says_close(option) {
+        if is_option(option, name) {
             return true;
         }
         match after {
@@ -83,8 +83,8 @@ fn comma_in(text: &[u8]) -> Option<usize>
 }
 
 #[tactic(auto, using(crate::proofs::FieldLemmas::same_is))]
-fn says_close(option: &[u8]) -> bool
-    ensures { result ≡ is_close option.now }
+fn is_option(option: &[u8], name: &[u8]) -> bool
+    ensures { result ≡ is_option name.now option.now }
 {
-    trim_blanks(option).eq_ignore_ascii_case(b"close")
+    trim_blanks(option).eq_ignore_ascii_case(name)
 }

@@ -1,4 +1,4 @@
-use crate::bytes::Bytes;
+use crate::byte_string::Bytes;
 use http::StatusCode;
 
 /// A backend's whole reply.
@@ -12,6 +12,7 @@ pub struct HttpReply {
     /// Whether the connection ends with this reply (RFC 9112, section 9.3): the reply is of HTTP/1.0, or a `Connection`
     /// field of it has the option `close`.
     pub closes: bool,
-    /// The body: as many bytes as `Content-Length` says, and none where the status is 204 or 304.
+    /// The body: as many bytes as `Content-Length` says, or the data of its chunks, and none where the status is 204 or
+    /// 304.
     pub body: Bytes,
 }

@@ -10,10 +10,14 @@ pub enum ReplyFault {
     /// a status from 200 to 999.
     NotAHead,
     /// The body's length is not told by `Content-Length` alone: there is a `Transfer-Encoding` field,
-    /// or no `Content-Length`, though the status is not 204 or 304.
+    /// or no `Content-Length`, though the status is not 204 or 304. Where chunks are taken, they are told likewise: by
+    /// `Transfer-Encoding: chunked` alone, in a reply of HTTP/1.1.
     NotFixedLength(StatusCode),
     /// `Content-Length` is repeated, or is not 1 to 10 decimal digits.
     BadLength(StatusCode),
     /// The body has more than 65,536 bytes.
     BodyTooLarge(StatusCode),
+    /// The body is in chunks, and is not what RFC 9112, section 7.1 says, or has more than 8,192 bytes of extensions
+    /// and trailers.
+    BadChunk(StatusCode),
 }

@@ -1,10 +1,11 @@
 ghost use Rattle.std.specs.Prelude.{◌≡◌};
-ghost use Rattle.http_pieces.specs.Fields.{values_of, IsFieldOf};
+ghost use Rattle.http_pieces.specs.Fields.{IsFieldOf, lists_option, values_of};
 ghost use Rattle.http_pieces.specs.Request.{closes};
 
 use crate::field::Field;
+use crate::fields::Fields;
 use crate::head::Head;
-use crate::lookup::{any_close, find_field};
+use crate::lookup::{find_field, lists_option};
 use crate::version::Version;
 use std::marker::Model;
 
@@ -60,6 +61,21 @@ impl Request {
         find_field(&self.bytes, &self.head.headers, name)
     }
 
+    /// The names and values of the fields, in the order of the head: 64 at most.
+    pub fn fields(&self) -> Fields<'_>
+        ensures { result ≡ self.now.fields }
+    {
+        Fields::new(&self.bytes, &self.head.headers)
+    }
+
+    /// Whether one of its `Connection` fields has the option of that name, which compares without case (RFC 9110,
+    /// section 7.6.1).
+    pub fn lists_option(&self, name: &[u8]) -> bool
+        ensures { result ≡ lists_option name.now self.now.fields }
+    {
+        lists_option(&self.bytes, &self.head.headers, name)
+    }
+
     /// The body: as many bytes as `Content-Length` says, or none without the field.
     pub fn body(&self) -> &[u8]
         ensures { result.now ≡ self.now.body }
@@ -72,8 +88,6 @@ impl Request {
     pub fn closes(&self) -> bool
         ensures { result ≡ closes self.now }
     {
-        self.version() == Version::V10
-            || self.number == 99
-            || any_close(&self.bytes, &self.head.headers)
+        self.version() == Version::V10 || self.number == 99 || self.lists_option(b"close")
     }
 }

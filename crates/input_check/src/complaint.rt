@@ -38,9 +38,14 @@ pub(crate) enum Complaint {
     NotALimit,
     NotATimeout,
     NotABranchTimeout,
+    NotTexts,
     // of a plan
     BadPath,
     BadAddress,
+    TooManyFields,
+    BadFieldName,
+    FieldKeptBack,
+    RepeatedField,
     BadName,
     NoBranch,
     TooManyBranches,
@@ -131,11 +136,23 @@ impl Complaint {
             Complaint::NotABranchTimeout => {
                 "a whole number of milliseconds from 1 to 9,999,999,999, in digits alone; leave the key out for none"
             }
+            Complaint::NotTexts =>
+                "an array of texts belongs here; leave the key out to pass nothing on",
             Complaint::BadPath => {
                 "a path begins with /, has bytes from ! to ~ but no ? and no #, and is at most 1,024 bytes long"
             }
             Complaint::BadAddress => {
                 "a host and a port, as 127.0.0.1:9001: at most 255 bytes from ! to ~, at the end : and 1 to 5 digits"
+            }
+            Complaint::TooManyFields => "a branch passes on at most 16 fields",
+            Complaint::BadFieldName => {
+                "a field's name: 1 to 64 letters, digits and signs of !#$%&'*+-.^_`|~"
+            }
+            Complaint::FieldKeptBack => {
+                "not passed on: the gateway writes it, or it belongs to one connection or message"
+            }
+            Complaint::RepeatedField => {
+                "an earlier name here is the same to a backend, which may take _ for - and has no case"
             }
             Complaint::BadName => {
                 "a letter from a to z, then letters from a to z, digits and _, at most 64 bytes"

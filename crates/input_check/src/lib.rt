@@ -13,6 +13,7 @@ mod json_fault;
 mod lines;
 mod nesting;
 mod own_address;
+mod pass_fault;
 mod plan_fault;
 mod plan_warnings;
 mod report;

@@ -2,6 +2,7 @@
 //! then plan by plan.
 use crate::complaint::Complaint;
 use crate::finding::{Finding, Place};
+use crate::pass_fault::{first_pass_fault, pass_shape_fault};
 use call_plan::{is_address, is_name, is_path};
 use serde_json::Value;
 
@@ -89,6 +90,7 @@ fn branch_shape_fault<'v>(place: Place<'v>, branch: &'v Value) -> Option<Finding
         .or(text_fault(place, branch, "address"))
         .or(text_fault(place, branch, "path"))
         .or(branch_timeout_fault(place, branch))
+        .or(pass_shape_fault(place, branch))
 }
 
 fn branch_timeout_fault<'v>(place: Place<'v>, branch: &'v Value) -> Option<Finding<'v>> {
@@ -122,6 +124,7 @@ fn rule_fault<'v>(place: Place<'v>, plan: &'v Value) -> Option<Finding<'v>> {
     let branches = branches_of(plan);
     path_fault(place, plan)
         .or(first_target_fault(place, branches))
+        .or(first_pass_fault(place, branches))
         .or(first_name_fault(place, branches))
         .or(count_fault(place, branches))
         .or(zero_limit(place, plan))

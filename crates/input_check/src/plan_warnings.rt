@@ -12,16 +12,17 @@ use std::alloc::Global;
 
 const PLAN_KEYS: [&str; 4] = ["path", "limit", "timeout_ms", "branches"];
 
-const BRANCH_KEYS: [&str; 4] = ["name", "address", "path", "timeout_ms"];
+const BRANCH_KEYS: [&str; 5] = ["name", "address", "path", "timeout_ms", "pass"];
 
 /// All keys that are looked at in a plan file or a script.
-const FILE_KEYS: [&str; 8] = [
+const FILE_KEYS: [&str; 9] = [
     "path",
     "limit",
     "timeout_ms",
     "branches",
     "name",
     "address",
+    "pass",
     "plans",
     "events",
 ];

@@ -1,6 +1,7 @@
 use crate::lines::{Lines, push_count, push_shown};
 use crate::plan_fault::text_of;
 use call_plan::{Plan, Plans};
+use http_pieces::Text;
 use itoa::Buffer;
 use serde_json::Value;
 
@@ -40,7 +41,16 @@ fn push_served_plan(lines: &mut Lines<'_>, number: usize, plan: &Plan) {
         if let Some(ms) = branch.timeout_ms {
             push_ms(lines, ms);
         }
+        push_passed(lines, branch.pass.as_slice());
         lines.push_str("\n");
+    }
+}
+
+/// Adds the names of the fields that a branch passes on, if it passes any.
+fn push_passed(lines: &mut Lines<'_>, names: &[Text]) {
+    for (place, name) in names.iter().enumerate() {
+        lines.push_str(if place == 0 { ", passes " } else { ", " });
+        push_shown(lines, name.as_str());
     }
 }
 

@@ -1,6 +1,5 @@
 -- A job that is asked for, and how that ended.
-use Rattle.std.specs.Prelude.{◌≡◌, ◌⊎◌, ℕ, Bool, All, List, [], Option, Some, None}
-use Rattle.std.specs.List.{Contains}
+use Rattle.std.specs.Prelude.{◌≡◌, ◌⊎◌, ℕ, Bool, All, List, [], ◌∷◌, ◌++◌, map, Option, Some, None, option_to_list}
 use Rattle.std.specs.Net.Grammar.{IsSocketText}
 use Rattle.std.specs.declared.net.socket_addr.SocketAddr.{SocketAddr}
 use Rattle.connect_codec.specs.BranchRequest.{branch_request}
@@ -10,6 +9,7 @@ use Rattle.gateway_model.specs.Job.{JobValue}
 use Rattle.gateway_model.specs.Queue.{IsPrefixOf}
 use Rattle.http_pieces.specs.Cut.{Complete, IsCut}
 use Rattle.http_pieces.specs.ReplyHead.{reply_kind}
+use Rattle.http_pieces.specs.declared.framing.Framing.{Framing}
 use Rattle.http_pieces.specs.declared.reply.HttpReply.{HttpReply}
 
 -- a stream to a backend: the address that it leads to, what was read from it, what was written to it, and whether a read found its end,
@@ -44,37 +44,47 @@ ended_value asking outcome = record { asking = asking; outcome = outcome }
 -- the bytes that ask for the job
 abbrev pub request_of : JobValue → List ℕ
 request_of job =
-    branch_request (record { address = job.address; path = job.path; remaining = job.remaining; request_id = job.request_id; body = job.body })
+    branch_request (record { address = job.address; path = job.path; remaining = job.remaining; request_id = job.request_id; passed = job.passed; body = job.body })
 
 -- nothing was read from the stream, or written to it
 abbrev pub IsUntouched : StreamValue → Type 0
 IsUntouched s = (s.given ≡ []) × (s.got ≡ [])
 
--- the request was written whole, what was read begins with a reply, and the outcome is that of this reply
-pub record IsAnswered (x : AskingValue) (o : Outcome) : Type 0 where
+-- the request was written whole, what was read begins with a reply, whose body may be framed so, and the outcome is that of this reply
+pub record IsAnswered (framing : Framing) (x : AskingValue) (o : Outcome) : Type 0 where
   pub whole : x.got ≡ request_of x.job
   pub reply : HttpReply
   pub rest : List ℕ
-  pub begins : IsCut reply_kind x.given (Complete reply rest)
+  pub begins : IsCut (reply_kind framing) x.given (Complete reply rest)
   pub outcome_is : o ≡ outcome_of (Some reply)
 
--- the text is that of the address, or it was found for the text
-abbrev pub IsAddressOf : List ℕ → List SocketAddr → SocketAddr → Type 0
-IsAddressOf text found address = IsSocketText text address ⊎ Contains found address
+-- no reply was lost: the request was not written whole, or what was read does not begin with a whole reply
+abbrev pub IsUnanswered : Framing → AskingValue → Type 0
+IsUnanswered framing x =
+    x.got ≡ request_of x.job → (reply : HttpReply) → ¬ ((rest : List ℕ) × IsCut (reply_kind framing) x.given (Complete reply rest))
 
--- the stream that it goes over leads to an address of its job; while there is none, nothing was written
+-- these are the addresses of the text: the one that it spells, or those that were found for it
+abbrev pub AreAddressesOf : List ℕ → List SocketAddr → List SocketAddr → Type 0
+AreAddressesOf text found addresses = ((address : SocketAddr) × IsSocketText text address × (addresses ≡ address ∷ [])) ⊎ (addresses ≡ found)
+
+-- the addresses that its streams lead to, in the order in which it went over them
+abbrev pub peers_of : List StreamValue → Option SocketAddr → List SocketAddr
+peers_of tried peer = map (λ (s : StreamValue). s.peer) tried ++ option_to_list peer
+
+-- its streams lead to the addresses of its job, one after the other and from the first on; while it has none, nothing was written
 pub record IsAddressed (x : AskingValue) : Type 0 where
-  pub peer : (address : SocketAddr) → x.peer ≡ Some address → IsAddressOf x.job.address x.found address
+  pub later : List SocketAddr
+  pub in_order : AreAddressesOf x.job.address x.found (peers_of x.tried x.peer ++ later)
   pub none : x.peer ≡ None → x.got ≡ []
 
--- nothing was written to a stream that was given up, and to the one that it goes over, which leads to an address of its job, some first
--- bytes of the job's request, and no others
+-- nothing was written to a stream that was given up, and to the one that it goes over some first bytes of the job's request, and no others;
+-- and they lead to addresses of the job, in order
 pub record BeginsRequest (x : AskingValue) : Type 0 where
   pub untouched : All IsUntouched x.tried
   pub prefix : IsPrefixOf x.got (request_of x.job)
   pub addressed : IsAddressed x
 
--- so it began, and its outcome is that of its reply, or of a reply that was lost
-pub record IsFair (e : EndedValue) : Type 0 where
+-- so it began, and its outcome is that of its reply, which may be framed so, or says that there is none
+pub record IsFair (framing : Framing) (e : EndedValue) : Type 0 where
   pub begun : BeginsRequest e.asking
-  pub outcome : (o : Outcome) → e.outcome ≡ Some o → (o ≡ outcome_of None) ⊎ IsAnswered e.asking o
+  pub outcome : (o : Outcome) → e.outcome ≡ Some o → ((o ≡ outcome_of None) × IsUnanswered framing e.asking) ⊎ IsAnswered framing e.asking o

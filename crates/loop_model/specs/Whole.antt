@@ -4,13 +4,15 @@ use Rattle.std.specs.Option.{option_map_or}
 use Rattle.connect_codec.specs.declared.answer.Outcome.{Outcome}
 use Rattle.gateway_model.specs.Job.{JobValue}
 use Rattle.gateway_model.specs.Queue.{IsPrefixOf}
+use Rattle.http_pieces.specs.declared.framing.Framing.{Framing}
 use Rattle.loop_model.specs.Asking.{AskingValue, BeginsRequest, EndedValue, IsFair, StreamValue, ended_value}
 use Rattle.loop_model.specs.Explained.{IsExplained, LoopValue, draining}
 use Rattle.loop_model.specs.Growing.{Continues}
 
--- what is seen of a loop: its clients' side, the jobs that are asked for, in their places, and those that were, in the order in which they
--- ended
+-- what is seen of a loop: how replies of its backends may be framed, its clients' side, the jobs that are asked for, in their places, and
+-- those that were, in the order in which they ended
 pub record WholeLoop : Type 0 where
+  pub framing : Framing
   pub side : LoopValue
   pub asking : List (Option AskingValue)
   pub ended : List EndedValue
@@ -31,7 +33,7 @@ asked_at i asking = slice_index_or asking i None
 -- asked for begins its request; and a job was taken as often as it has ended, or is asked for
 pub record AsksFairly (w : WholeLoop) : Type 0 where
   pub results : w.side.results ≡ map (λ (e : EndedValue). (e.asking.job, e.outcome)) w.ended
-  pub fair : All IsFair w.ended
+  pub fair : All (IsFair w.framing) w.ended
   pub begun : (i : ℕ) (x : AskingValue) → asked_at i w.asking ≡ Some x → BeginsRequest x
   pub jobs : (p : JobValue → Bool) → count_by p w.side.handed ≡ count_by (λ (e : EndedValue). p e.asking.job) w.ended + count_asked p w.asking
 
@@ -71,9 +73,10 @@ pub record HasEndedSince (v w : WholeLoop) (y : AskingValue) : Type 0 where
   pub after : List EndedValue
   pub ended_are : w.ended ≡ v.ended ++ (before ++ ended_value y outcome ∷ after)
 
--- all of its clients' side continues; each job that was asked for is asked for in its place with more, or has ended with more; and what
--- had ended stays
+-- its replies may be framed as before; all of its clients' side continues; each job that was asked for is asked for in its place with more,
+-- or has ended with more; and what had ended stays
 pub record ContinuesLoop (v w : WholeLoop) : Type 0 where
+  pub framing : w.framing ≡ v.framing
   pub side : Continues v.side w.side
   pub asking : (i : ℕ) (x : AskingValue) → asked_at i v.asking ≡ Some x
       → (y : AskingValue) × ((asked_at i w.asking ≡ Some y) ⊎ HasEndedSince v w y) × AsksOn x y

@@ -1,23 +1,24 @@
 -- What is known of each request, and of a job's counts.
-use Rattle.std.proofs.Common.{◌≡◌, ℕ, zero, suc, ◌+◌, Bool, List, [], ◌∷◌, ◌++◌, All, cond, length, Option, Some, None, ap, arith, inr, subst, refl, sym, ◌∙◌}
+use Rattle.std.proofs.Common.{◌≡◌, ℕ, zero, suc, ◌+◌, Bool, List, [], ◌∷◌, ◌++◌, All, cond, length, Option, Some, None, ap, append-nil, arith, inl, inr, refl, sym, ◌∙◌}
 use Rattle.std.specs.Prelude.{count_by, slice_index_or, take}
 use Rattle.std.proofs.lemmas.List.{length-append}
-use Rattle.std.proofs.lemmas.List.Elements.{All-cons, All-head, All-nil, Contains-push}
+use Rattle.std.proofs.lemmas.List.Elements.{All-cons, All-head, All-nil}
 use Rattle.std.proofs.lemmas.List.Sums.{sum_by-cons}
 use Rattle.connect_codec.specs.Outcome.{outcome_of}
 use Rattle.connect_codec.specs.declared.answer.Outcome.{Outcome}
 use Rattle.connect_codec.specs.declared.answer.Outcome.TheVariants.{Answer}
-use Rattle.http_pieces.specs.Cut.{Complete, EndsInEmptyLine, IsCut, Refused, cut_unblocked, with_head, without_block, without_head}
+use Rattle.http_pieces.specs.Cut.{Complete, Cut, EndsInEmptyLine, Incomplete, IsCut, Refused, cut_unblocked, with_head, without_block, without_head}
 use Rattle.http_pieces.specs.ReplyHead.{reply_kind}
+use Rattle.http_pieces.specs.declared.framing.Framing.{Framing}
 use Rattle.http_pieces.specs.declared.reply.HttpReply.{HttpReply}
+use Rattle.http_pieces.specs.declared.reply_fault.ReplyFault.{ReplyFault}
 use Rattle.connect_codec.specs.BranchRequest.{branch_request}
 use Rattle.connect_codec.specs.Message.{message_bytes}
 use Rattle.gateway_model.specs.Job.{JobValue}
 use Rattle.gateway_model.specs.Queue.{IsPrefixOf}
-use Rattle.std.specs.List.{Contains}
 use Rattle.std.specs.declared.net.socket_addr.SocketAddr.{SocketAddr}
-use Rattle.loop_model.specs.Asking.{EndedValue, IsAddressed, StreamValue, request_of}
-use Rattle.loop_rows.specs.LoopRows.{asked}
+use Rattle.loop_model.specs.Asking.{EndedValue, IsAddressed, IsFair, IsUntouched, StreamValue, peers_of, request_of}
+use Rattle.loop_rows.specs.LoopRows.{asked, ended}
 
 pub some_is : (a b : Outcome) → Some a ≡ Some b → a ≡ b
 some_is a b e = cc
@@ -28,16 +29,10 @@ no_some b e = cc
 pub all_one : {X : Type 0} (P : X → Type 0) (x : X) → P x → All P (x ∷ [])
 all_one P x one = All-cons P x [] one (All-nil P)
 
--- its stream leads to the address that was found
-pub found_first : (a : SocketAddr) (j : JobValue) (tried : List StreamValue) (given got : List ℕ) → IsAddressed (asked a j tried given got)
-found_first a j tried given got = record {
-  peer = λ b is. inr (subst (λ (t : SocketAddr). Contains (a ∷ []) t) (some_host a b is) (Contains-push [] a));
-  none = λ is. absurd (no_host a is);
-}
+-- its stream leads to the address that was found last
+pub found_last : (a : SocketAddr) (j : JobValue) (tried : List StreamValue) (given got : List ℕ) → IsAddressed (asked a j tried given got)
+found_last a j tried given got = record { later = []; in_order = inr (append-nil (peers_of tried (Some a))); none = λ is. absurd (no_host a is) }
   where
-    some_host : (b c : SocketAddr) → Some b ≡ Some c → b ≡ c
-    some_host b c e = cc
-
     no_host : (b : SocketAddr) → Some b ≡ None → ⊥
     no_host b e = cc
 
@@ -69,6 +64,19 @@ pub never_lost : (body : List ℕ) → Answer body ≡ outcome_of None → ⊥
 unfolding outcome_of
 never_lost body e = cc
 
+-- some more of it is to be written
+pub no_more : (front more : List ℕ) (b : ℕ) → front ≡ front ++ b ∷ more → ⊥
+no_more front more b e = omega (arith, ap (λ (l : List ℕ). length l) e, length-append front (b ∷ more))
+
+pub not_whole : (reply : HttpReply) (rest : List ℕ) → ◌≡◌ {A = Cut ReplyFault HttpReply} Incomplete (Complete reply rest) → ⊥
+not_whole reply rest e = cc
+
+pub not_refused : (fault : ReplyFault) (reply : HttpReply) (rest : List ℕ) → ◌≡◌ {A = Cut ReplyFault HttpReply} (Refused fault) (Complete reply rest) → ⊥
+not_refused fault reply rest e = cc
+
+pub one_reply : (a b : HttpReply) (rest more : List ℕ) → ◌≡◌ {A = Cut ReplyFault HttpReply} (Complete a rest) (Complete b more) → a ≡ b
+one_reply a b rest more e = cc
+
 -- ---- no reply was read where nothing was
 
 abbrev nothing : List ℕ
@@ -81,16 +89,43 @@ take_nothing (suc n) = refl
 ends_nowhere : (n : ℕ) → EndsInEmptyLine (take n nothing) → ⊥
 ends_nowhere n e = omega (arith, ap (λ (l : List ℕ). length l) (sym (take_nothing n) ∙ e.1), length-append e.0 (13 ∷ 10 ∷ 13 ∷ 10 ∷ []))
 
-not_incomplete : (reply : HttpReply) (rest : List ℕ) → Complete reply rest ≡ cut_unblocked reply_kind [] → ⊥
-not_incomplete reply rest e = cc
+not_incomplete : (framing : Framing) (reply : HttpReply) (rest : List ℕ) → Complete reply rest ≡ cut_unblocked (reply_kind framing) [] → ⊥
+not_incomplete framing reply rest e = cc
 
-no_refusal : (reply : HttpReply) (rest : List ℕ) → Complete reply rest ≡ Refused reply_kind.no_head → ⊥
-no_refusal reply rest e = cc
+no_refusal : (framing : Framing) (reply : HttpReply) (rest : List ℕ) → Complete reply rest ≡ Refused (reply_kind framing).no_head → ⊥
+no_refusal framing reply rest e = cc
 
-pub none_read : (reply : HttpReply) (rest : List ℕ) → IsCut reply_kind [] (Complete reply rest) → ⊥
-none_read reply rest (without_block none is) = not_incomplete reply rest is
-none_read reply rest (without_head n block none is) = no_refusal reply rest is
-none_read reply rest (with_head n a block head is) = ends_nowhere n block.ends
+pub none_read : (framing : Framing) (reply : HttpReply) (rest : List ℕ) → IsCut (reply_kind framing) [] (Complete reply rest) → ⊥
+none_read framing reply rest (without_block none is) = not_incomplete framing reply rest is
+none_read framing reply rest (without_head n block none is) = no_refusal framing reply rest is
+none_read framing reply rest (with_head n a block head is) = ends_nowhere n block.ends
+
+-- ---- how it ends
+
+-- a text is cut in one way
+abbrev pub CutsOnce : Framing → Type 0
+CutsOnce framing = (text : List ℕ) (c d : Cut ReplyFault HttpReply) → IsCut (reply_kind framing) text c → IsCut (reply_kind framing) text d → c ≡ d
+
+module _ (f : Framing) (a : SocketAddr) (j : JobValue) (given : List ℕ) where
+  -- by the reply that it began with
+  pub answered_by : (reply : HttpReply) (rest : List ℕ) → IsCut (reply_kind f) given (Complete reply rest)
+      → IsFair f (ended a j [] given (request_of j) (Some (outcome_of (Some reply))))
+  answered_by reply rest cut = record {
+    begun = record { untouched = All-nil IsUntouched; prefix = ([], sym (append-nil (request_of j))); addressed = found_last a j _ _ _ };
+    outcome = λ o is. inr (record { whole = refl; reply = reply; rest = rest; begins = cut; outcome_is = sym (some_is _ o is) });
+  }
+
+  -- by none, where it began with none
+  pub lost_by : ((reply : HttpReply) (rest : List ℕ) → IsCut (reply_kind f) given (Complete reply rest) → ⊥)
+      → IsFair f (ended a j [] given (request_of j) (Some (outcome_of None)))
+  lost_by none = record {
+    begun = record { untouched = All-nil IsUntouched; prefix = ([], sym (append-nil (request_of j))); addressed = found_last a j _ _ _ };
+    outcome = λ o same. inl (sym (some_is _ o same), λ whole reply begins. none reply begins.0 begins.1);
+  }
+
+  pub lost_by_refusal : CutsOnce f → (fault : ReplyFault) → IsCut (reply_kind f) given (Refused fault)
+      → IsFair f (ended a j [] given (request_of j) (Some (outcome_of None)))
+  lost_by_refusal once fault cut = lost_by (λ reply rest whole. not_refused fault reply rest (once given _ _ cut whole))
 
 -- ---- results
 

@@ -1,11 +1,12 @@
 -- What a loop with one job goes on with.
-use Rattle.std.proofs.Common.{◌≡◌, ℕ, zero, suc, List, [], ◌∷◌, ◌++◌, length, Option, None, Some, ap, arith, refl, sym, ◌∙◌}
+use Rattle.std.proofs.Common.{◌≡◌, ℕ, zero, suc, List, [], ◌∷◌, ◌++◌, length, Option, None, Some, ap, arith, inr, refl, sym, ◌∙◌}
 use Rattle.std.proofs.lemmas.List.{length-append}
 use Rattle.std.proofs.lemmas.List.Elements.{All-nil}
 use Rattle.connect_codec.specs.declared.answer.Outcome.{Outcome}
 use Rattle.gateway_model.specs.Job.{JobValue}
 use Rattle.gateway_theory.specs.Values.{GatewayValue}
 use Rattle.gateway_theory.specs.lemmas.PastLemmas.{prefix-refl}
+use Rattle.http_pieces.specs.declared.framing.Framing.{Framing}
 use Rattle.std.specs.declared.net.socket_addr.SocketAddr.{SocketAddr}
 use Rattle.loop_model.specs.Asking.{AskingValue, BeginsRequest, EndedValue, IsUntouched, ended_value, request_of}
 use Rattle.loop_model.specs.Clients.{ClientValue}
@@ -29,9 +30,9 @@ none_there : (b : ClientValue) → None ≡ Some b → ⊥
 none_there b e = cc
 
 -- nobody is there, and this is more
-pub side_on : (v : GatewayValue) (results more : List (JobValue × Option Outcome)) (handed : List JobValue)
-    → Continues (loop_of v results handed [] []).side (loop_of v (results ++ more) handed [] []).side
-side_on v results more handed = record {
+pub side_on : (f : Framing) (v : GatewayValue) (results more : List (JobValue × Option Outcome)) (handed : List JobValue)
+    → Continues (loop_of f v results handed [] []).side (loop_of f v (results ++ more) handed [] []).side
+side_on f v results more handed = record {
   plans = refl;
   clients = λ i x is. absurd (none_there x (nobody i ∙ is));
   gone = prefix-refl [];
@@ -66,11 +67,8 @@ pub begins_at_first : (j : JobValue) → BeginsRequest (asking j)
 begins_at_first j = record {
   untouched = All-nil IsUntouched;
   prefix = (request_of j, refl);
-  addressed = record { peer = λ a is. absurd (nowhere_to a is); none = λ is. refl };
+  addressed = record { later = []; in_order = inr refl; none = λ is. refl };
 }
-  where
-    nowhere_to : (a : SocketAddr) → None ≡ Some a → ⊥
-    nowhere_to a e = cc
 
 -- nothing ended since where nothing has ended
 pub nothing_since : (v w : WholeLoop) (y : AskingValue) → w.ended ≡ [] → HasEndedSince v w y → ⊥

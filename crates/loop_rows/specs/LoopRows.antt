@@ -1,5 +1,5 @@
 -- What the worked rows speak of.
-use Rattle.std.specs.Prelude.{◌≡◌, ◌<◌, ℕ, Bool, false, List, [], ◌∷◌, ◌++◌, Option, None, Some}
+use Rattle.std.specs.Prelude.{◌≡◌, ◌<◌, ℕ, Bool, false, List, [], ◌∷◌, ◌++◌, map, Option, None, Some}
 use Rattle.call_plan.specs.Plan.{PlanRecord}
 use Rattle.connect_codec.specs.declared.answer.Outcome.{Outcome}
 use Rattle.gateway_model.specs.Events.{Before, Occurs, connections, hung_up, stream}
@@ -10,6 +10,12 @@ use Rattle.gateway_model.specs.Queue.{queued}
 use Rattle.gateway_model.specs.Starts.{Placed, occurrences}
 use Rattle.gateway_model.specs.declared.event.Event.TheVariants.{Opening}
 use Rattle.gateway_theory.specs.Values.{GatewayValue}
+use Rattle.http_pieces.specs.Cut.{Complete, IsCut, Refused}
+use Rattle.http_pieces.specs.ReplyHead.{reply_kind}
+use Rattle.http_pieces.specs.declared.framing.Framing.{Framing}
+use Rattle.http_pieces.specs.declared.framing.Framing.TheVariants as framing
+use Rattle.http_pieces.specs.declared.reply.HttpReply.{HttpReply}
+use Rattle.http_pieces.specs.declared.reply_fault.ReplyFault.{ReplyFault}
 use Rattle.std.specs.declared.net.socket_addr.SocketAddr.{SocketAddr}
 use Rattle.loop_model.specs.Asking.{AskingValue, EndedValue, StreamValue, ended_value}
 use Rattle.loop_model.specs.Clients.{ClientValue, client_value}
@@ -23,7 +29,7 @@ after events = history_of (0 ∷ 1 ∷ []) (events ++ Opening ∷ Opening ∷ []
 
 -- the job of that branch of that request of that connection
 abbrev pub job : ℕ → ℕ → ℕ → JobValue
-job conn request branch = record { call = call_id conn request; branch = branch; plan_path = []; branch_name = []; address = []; path = []; body = []; request_id = None; deadline = None; remaining = None }
+job conn request branch = record { call = call_id conn request; branch = branch; plan_path = []; branch_name = []; address = []; path = []; body = []; request_id = None; passed = []; deadline = None; remaining = None }
 
 abbrev pub result_of : ℕ → ℕ → ℕ → Outcome → ResultValue
 result_of conn request branch outcome = record { call = call_id conn request; branch = branch; outcome = outcome }
@@ -32,9 +38,9 @@ result_of conn request branch outcome = record { call = call_id conn request; br
 abbrev pub asking : JobValue → AskingValue
 asking job = record { job = job; found = []; tried = []; peer = None; given = []; got = [] }
 
--- it is asked for so, over a stream to this address, which was found for its name
+-- it is asked for so, over a stream to this address, which was found for its name behind those that were tried
 abbrev pub asked : SocketAddr → JobValue → List StreamValue → List ℕ → List ℕ → AskingValue
-asked a job tried given got = record { job = job; found = a ∷ []; tried = tried; peer = Some a; given = given; got = got }
+asked a job tried given got = record { job = job; found = map (λ (s : StreamValue). s.peer) tried ++ a ∷ []; tried = tried; peer = Some a; given = given; got = got }
 
 -- .. over a stream to this address, where these were found for its name
 abbrev pub asked_at_peer : SocketAddr → List SocketAddr → JobValue → AskingValue
@@ -52,17 +58,18 @@ client_of conn = client_value conn false [] [] false []
 abbrev pub with_clients : GatewayValue → List (Option ClientValue) → List ClientValue → LoopValue
 with_clients core clients gone = record { core = core; clients = clients; gone = gone; told = []; results = []; handed = []; drained = false }
 
--- a loop without clients
-abbrev pub loop_of : GatewayValue → List (JobValue × Option Outcome) → List JobValue → List (Option AskingValue) → List EndedValue → WholeLoop
-loop_of core results handed asking ended = record {
+-- a loop without clients, whose replies may be framed so
+abbrev pub loop_of : Framing → GatewayValue → List (JobValue × Option Outcome) → List JobValue → List (Option AskingValue) → List EndedValue → WholeLoop
+loop_of framing core results handed asking ended = record {
+  framing = framing;
   side = record { core = core; clients = []; gone = []; told = []; results = results; handed = handed; drained = false };
   asking = asking;
   ended = ended;
 }
 
 -- .. that asks for one job
-abbrev pub asks : GatewayValue → AskingValue → WholeLoop
-asks core x = loop_of core [] (x.job ∷ []) (Some x ∷ []) []
+abbrev pub asks : Framing → GatewayValue → AskingValue → WholeLoop
+asks framing core x = loop_of framing core [] (x.job ∷ []) (Some x ∷ []) []
 
 -- something occurs by the history, and by whatever does these bytes are queued for that connection
 pub record Queues (plans : List PlanRecord) (h : History) (conn : ℕ) (bytes : List ℕ) : Type 0 where
@@ -73,3 +80,10 @@ pub record Queues (plans : List PlanRecord) (h : History) (conn : ℕ) (bytes : 
 -- that connection was opened, these bytes came of it, and so is whether it hung up
 abbrev pub IsAt : History → ℕ → List ℕ → Bool → Type 0
 IsAt h conn bytes ended = (conn < connections h.opened h.events) × (stream h.opened conn h.events ≡ bytes) × (hung_up h.opened conn h.events ≡ ended)
+
+-- the text begins with this reply where chunks are taken, and is refused where they are not
+pub record IsReplyInChunks (text : List ℕ) (reply : HttpReply) : Type 0 where
+  pub rest : List ℕ
+  pub taken : IsCut (reply_kind framing.Any) text (Complete reply rest)
+  pub fault : ReplyFault
+  pub not_taken : IsCut (reply_kind framing.Fixed) text (Refused fault)

@@ -3,6 +3,7 @@ ghost use Rattle.std.specs.Prelude.{◌≡◌, ◌∷◌, [], List, Option, true
 ghost use Rattle.connect_codec.specs.declared.answer.Outcome.{Outcome};
 ghost use Rattle.gateway_model.specs.declared.event.Event.TheVariants.{Drain, Moment, Opening};
 ghost use Rattle.gateway_theory.specs.Values.{GatewayValue};
+ghost use Rattle.http_pieces.specs.declared.framing.Framing.{Framing};
 ghost use Rattle.loop_model.specs.Clients.{ClientValue};
 ghost use Rattle.loop_model.specs.Explained.{IsExplainedBy, draining};
 ghost use Rattle.loop_model.specs.Handed.{has_drained};
@@ -21,6 +22,6 @@ fn other_drains()
         → (e : IsExplainedBy u (with_clients v clients gone)) → has_drained e.history.events ≡ true → ⊥ }
     ensures undone { (u : Outcome) (v : GatewayValue) (clients : List (Option ClientValue)) (gone : List ClientValue)
         → (e : IsExplainedBy u (draining (with_clients v clients gone))) → has_drained e.history.events ≡ false → ⊥ }
-    ensures of_its_own { (v : GatewayValue) → ContinuesLoop (loop_of v [] [] [] []) (draining_loop (loop_of v [] [] [] [])) → ⊥ }
-    ensures forgotten { (v : GatewayValue) → ContinuesLoop (draining_loop (loop_of v [] [] [] [])) (loop_of v [] [] [] []) → ⊥ }
+    ensures of_its_own { (f : Framing) (v : GatewayValue) → ContinuesLoop (loop_of f v [] [] [] []) (draining_loop (loop_of f v [] [] [] [])) → ⊥ }
+    ensures forgotten { (f : Framing) (v : GatewayValue) → ContinuesLoop (draining_loop (loop_of f v [] [] [] [])) (loop_of f v [] [] [] []) → ⊥ }
 {}

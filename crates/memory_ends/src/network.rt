@@ -176,10 +176,15 @@ impl Network<Told<MemoryStream>> for ScriptedNetwork {
         }
     }
 
-    fn watch(&mut self, _wire: &Told<MemoryStream>, token: usize, writes: bool) -> bool {
+    fn watch(&mut self, wire: &mut Told<MemoryStream>, token: usize, writes: bool) -> bool {
         let number = self.watches;
         self.watches = number.saturating_add(1);
-        self.watch_failing != Some(number) && self.watched.push((token, writes)).is_ok()
+        let fails = self.watch_failing == Some(number);
+        if fails || self.watched.push((token, writes)).is_err() {
+            return false;
+        }
+        wire.note_watched(token, writes);
+        true
     }
 
     fn look_up(&mut self, name: &str) -> bool {

@@ -1,15 +1,18 @@
 //! Streams whose reads and writes do not wait, and what waits to be written to one.
 //!
 //! A `Wire` tells, for proofs, all the bytes that were read from it and written to it. `Told` makes a wire of any
-//! `Stream`, as of a socket: it notes each read and write in a history that takes no memory.
+//! `Stream`, as of a socket: it notes each read and write in a history that takes no memory. A wire also knows whether it
+//! may be read and written without waiting, by what was reported (`Ready`) and answered.
 #![tactic(auto)]
 
 mod got;
 mod outbox;
+mod ready;
 mod told;
 mod wire;
 
 pub use got::{Got, Sent};
 pub use outbox::Outbox;
+pub use ready::Ready;
 pub use told::{Stream, Told};
 pub use wire::{PIECE, Wire};

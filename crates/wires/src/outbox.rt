@@ -6,16 +6,16 @@ use std::marker::Model;
 /// What waits to be written. Contracts see these bytes.
 #[derive(Drop)]
 pub struct Outbox {
-    bytes: Vec<u8>,
+    bytes: Bytes,
     at: usize,
 }
 
 impl Model for Outbox {
     ghost Value = { List ℕ };
 
-    ghost view = { λ o. drop o.at o.bytes.items };
+    ghost view = { λ o. drop o.at o.bytes };
 
-    ghost invariant = { λ o. o.at ≤ length o.bytes.items };
+    ghost invariant = { λ o. o.at ≤ length o.bytes };
 }
 
 impl Outbox {
@@ -23,10 +23,7 @@ impl Outbox {
     pub fn of(bytes: Bytes) -> Outbox
         ensures { result ≡ bytes }
     {
-        Outbox {
-            bytes: bytes.into_vec(),
-            at: 0,
-        }
+        Outbox { bytes, at: 0 }
     }
 
     /// Whether nothing waits.
@@ -40,7 +37,7 @@ impl Outbox {
     pub fn waiting(&self) -> &[u8]
         ensures { result.now ≡ self.now }
     {
-        &self.bytes[self.at..]
+        &self.bytes.as_slice()[self.at..]
     }
 
     /// So many of the first bytes were written.
@@ -48,6 +45,7 @@ impl Outbox {
         requires { count ≤ length self.old }
         ensures { self.new ≡ drop count self.old }
     {
-        self.at += count;
+        let left = self.waiting().len() - count;
+        self.at = self.bytes.len() - left;
     }
 }

@@ -1,10 +1,12 @@
-ghost use Rattle.std.specs.Prelude.{◌≡◌, [], false, true, Some};
+ghost use Rattle.std.specs.Prelude.{◌≡◌, [], false, true, None, Some};
 
 use crate::got::{Got, Sent};
 use crate::outbox::Outbox;
+use crate::ready::Ready;
 use crate::wire::{PIECE, Wire};
 use http_server::Log;
 use std::io::{self, ErrorKind, Read, Write};
+use std::marker::Model;
 
 /// A stream whose reads and writes do not wait: where they would have to, they fail by `WouldBlock`.
 pub trait Stream: Read + Write {
@@ -18,22 +20,48 @@ pub trait Stream: Read + Write {
 pub struct Told<S> {
     stream: S,
     has_ended: bool,
+    may_read: bool,
+    may_write: bool,
+    // whether an end or an urgent mark was reported: a read may stop short of what is there
+    may_stop: bool,
+    watched: Option<(usize, bool)>,
+    // for proofs
     reads: Log<[u8; PIECE], usize>,
     writes: Log<Outbox, usize>,
+    reported: Log<Ready, ()>,
+}
+
+impl<S> Model for Told<S> {
+    ghost use Rattle.wires.specs.Telling.{KeepsStop, ToldValue, told_value};
+
+    ghost Value = { ToldValue };
+
+    ghost view = { λ t. told_value t.reads.items t.writes.items t.has_ended t.may_read t.may_write t.watched t.reported.items };
+
+    ghost invariant = { λ t. KeepsStop t.may_stop t.reported.items };
 }
 
 impl<S: Stream> Told<S> {
-    /// A stream of which nothing was read or written yet.
+    /// A stream to which nothing was done yet: it may be written, and is not known to have bytes.
     pub fn new(stream: S) -> Told<S>
         ensures given { ⟦<Told<S> as Wire>⟧.given result ≡ [] }
         ensures got { ⟦<Told<S> as Wire>⟧.got result ≡ [] }
         ensures ended { ⟦<Told<S> as Wire>⟧.ended result ≡ false }
+        ensures reads { ⟦<Told<S> as Wire>⟧.reads result ≡ false }
+        ensures writes { ⟦<Told<S> as Wire>⟧.writes result ≡ true }
+        ensures watched { ⟦<Told<S> as Wire>⟧.watched result ≡ None }
+        ensures reported { ⟦<Told<S> as Wire>⟧.reported result ≡ [] }
     {
         Told {
             stream,
             has_ended: false,
+            may_read: false,
+            may_write: true,
+            may_stop: false,
+            watched: None,
             reads: Log::new(),
             writes: Log::new(),
+            reported: Log::new(),
         }
     }
 }
@@ -44,34 +72,68 @@ impl<S> Told<S> {
         &self.stream
     }
 
+    /// It is watched, for room to write too with `writes`: what is reported of this token is reported of it.
+    pub fn note_watched(&mut self, token: usize, writes: bool)
+        ensures { self.new ≡ record self.old { watched = Some (token, writes) } }
+    {
+        self.watched = Some((token, writes));
+    }
+
     /// A read found the end, or failed so.
     fn end(&mut self, kind: Option<ErrorKind>) -> Got
         ensures result { result ≡ Got.End kind }
-        ensures ended { self.new ≡ record self.old { has_ended = true } }
+        ensures ended { self.new ≡ record self.old { ended = true; reads = false } }
     {
         self.has_ended = true;
+        self.may_read = false;
         Got::End(kind)
     }
 }
 
 impl<S: Stream> Wire for Told<S> {
-    ghost use Rattle.wires.specs.Telling.{given_of, got_of};
+    ghost given = { λ t. t.given };
 
-    ghost given = { λ t. given_of t.reads.items };
+    ghost got = { λ t. t.got };
 
-    ghost got = { λ t. got_of t.writes.items };
+    ghost ended = { λ t. t.ended };
 
-    ghost ended = { λ t. t.has_ended };
+    ghost reads = { λ t. t.reads };
+
+    ghost writes = { λ t. t.writes };
+
+    ghost watched = { λ t. t.watched };
+
+    ghost reported = { λ t. t.reported };
+
+    fn report(&mut self, ready: Ready) {
+        self.may_read = self.may_read || ready.is_to_read();
+        self.may_write = self.may_write || ready.writable;
+        self.may_stop = self.may_stop || ready.is_stop();
+        self.reported = self.reported.and(&ready, &());
+    }
+
+    fn may_read(&self) -> bool {
+        self.may_read
+    }
+
+    fn may_write(&self) -> bool {
+        self.may_write
+    }
 
     fn read(&mut self, piece: &mut [u8; PIECE]) -> Got {
         match self.stream.read(piece) {
             Ok(0) => self.end(None),
             Ok(count) => {
                 self.reads = self.reads.and(piece, &count);
+                // one that left room has found all that was there
+                self.may_read = self.may_read && (self.may_stop || count >= PIECE);
                 Got::Bytes(count)
             }
             Err(error) => match error.kind() {
-                ErrorKind::WouldBlock => Got::Nothing,
+                ErrorKind::WouldBlock => {
+                    self.may_read = false;
+                    Got::Nothing
+                }
                 ErrorKind::Interrupted => Got::Interrupted,
                 kind => self.end(Some(kind)),
             },
@@ -86,7 +148,10 @@ impl<S: Stream> Wire for Told<S> {
                 Sent::Bytes(count)
             }
             Err(error) => match error.kind() {
-                ErrorKind::WouldBlock => Sent::Nothing,
+                ErrorKind::WouldBlock => {
+                    self.may_write = false;
+                    Sent::Nothing
+                }
                 ErrorKind::Interrupted => Sent::Interrupted,
                 kind => Sent::Failed(kind),
             },

@@ -1,13 +1,16 @@
-ghost use Rattle.std.specs.Prelude.{Bool, ◌≡◌, ℕ, List};
-ghost use Rattle.wires.specs.Wires.{Ends, Gives, Takes};
+ghost use Rattle.std.specs.Prelude.{◌≡◌, ◌||◌, ◌++◌, ◌∷◌, [], Bool, ℕ, List, Option};
+ghost use Rattle.wires.specs.Wires.{Ends, Gives, Takes, has_stop, is_to_read, reads_after, writes_after};
+ghost use Rattle.wires.specs.declared.ready.Ready.{Ready};
 
 use crate::got::{Got, Sent};
 use crate::outbox::Outbox;
+use crate::ready::Ready;
 
 /// How many bytes one read brings at most.
 pub const PIECE: usize = 4096;
 
-/// A stream whose reads and writes do not wait.
+/// A stream whose reads and writes do not wait. It knows what may be done: a report sets that, and what would have had
+/// to wait clears it.
 pub trait Wire {
     // for proofs: all the bytes that were read from it, and all that were written to it
     ghost given: { Self → List ℕ };
@@ -17,21 +20,61 @@ pub trait Wire {
     // for proofs: whether a read found its end, or failed
     ghost ended: { Self → Bool };
 
+    // for proofs: whether a read may bring something, and a write be taken, by all that was reported and answered
+    ghost reads: { Self → Bool };
+
+    ghost writes: { Self → Bool };
+
+    // for proofs: the token by which it was watched last, and whether for room to write too; and all that was reported
+    ghost watched: { Self → Option (ℕ × Bool) };
+
+    ghost reported: { Self → List Ready };
+
+    /// Is told what became possible.
+    fn report(&mut self, ready: Ready)
+        ensures given { given self.new ≡ given self.old }
+        ensures got { got self.new ≡ got self.old }
+        ensures ended { ended self.new ≡ ended self.old }
+        ensures reads { reads self.new ≡ (reads self.old || is_to_read ready) }
+        ensures writes { writes self.new ≡ (writes self.old || ready.writable) }
+        ensures watched { watched self.new ≡ watched self.old }
+        ensures reported { reported self.new ≡ reported self.old ++ ready ∷ [] };
+
+    /// Whether a read may bring something.
+    fn may_read(&self) -> bool
+        ensures { result ≡ reads self.now };
+
+    /// Whether a write may be taken.
+    fn may_write(&self) -> bool
+        ensures { result ≡ writes self.now };
+
     /// Reads once, into the first places of the piece.
     fn read(&mut self, piece: &mut [u8; PIECE]) -> Got
         ensures given { Gives (given self.old) (given self.new) piece.new result }
         ensures got { got self.new ≡ got self.old }
-        ensures ended { Ends (ended self.old) (ended self.new) result };
+        ensures ended { Ends (ended self.old) (ended self.new) result }
+        ensures reads { reads self.new ≡ reads_after (has_stop (reported self.old)) (reads self.old) result }
+        ensures writes { writes self.new ≡ writes self.old }
+        ensures watched { watched self.new ≡ watched self.old }
+        ensures reported { reported self.new ≡ reported self.old };
 
     /// Writes once of what waits, from its first byte on.
     fn write(&mut self, outbox: &Outbox) -> Sent
         ensures got { Takes (got self.old) (got self.new) outbox.now result }
         ensures given { given self.new ≡ given self.old }
-        ensures ended { ended self.new ≡ ended self.old };
+        ensures ended { ended self.new ≡ ended self.old }
+        ensures reads { reads self.new ≡ reads self.old }
+        ensures writes { writes self.new ≡ writes_after (writes self.old) result }
+        ensures watched { watched self.new ≡ watched self.old }
+        ensures reported { reported self.new ≡ reported self.old };
 
     /// Ends its sending side: the peer reads what was written before, and then the end.
     fn shut(&mut self)
         ensures given { given self.new ≡ given self.old }
         ensures got { got self.new ≡ got self.old }
-        ensures ended { ended self.new ≡ ended self.old };
+        ensures ended { ended self.new ≡ ended self.old }
+        ensures reads { reads self.new ≡ reads self.old }
+        ensures writes { writes self.new ≡ writes self.old }
+        ensures watched { watched self.new ≡ watched self.old }
+        ensures reported { reported self.new ≡ reported self.old };
 }

@@ -1,11 +1,13 @@
 -- What a piece of a connection's stream adds.
-use Rattle.std.specs.Prelude.{◌≡◌, ◌+◌, ◌<◌, ◌≤◌, ◌∷◌, ◌++◌, ◌⊎◌, ◌||◌, ◌==◌, if◌then◌else◌, ◌&&◌}
+use Rattle.std.specs.Prelude.{◌≡◌, ◌+◌, ◌<◌, ◌≤◌, ◌∷◌, ◌++◌, ◌⊎◌, ◌||◌, ◌==◌, if◌then◌else◌, ◌&&◌, take, drop, Result, Ok, Err}
 use Rattle.gateway_theory.specs.lemmas.Names.{ℕ, suc, Bool, true, false, List, [], length, refl, sym, ap, ◌∙◌, arith, inr, subst, map, append_assoc, nat_tests, MatchBool, nat_lt, reverse, not, eq-eqb, eqb-true, ne_eqb, length-append, append_cancel_left, reverse-append, append-nil, Done, HasRead, HasReadTo, Partial, ReaderValue, Reading, Stopped, Waiting, is_over, HttpRequest, closes, is_v10, most_requests, Closed, RefusedBy, Requests, StreamEnd, refusals, is_waiting, Adds, CoreValue, HasCome, HasConns, HasStreams, StreamStands, StreamValue, is_heard, refusal_gained, Gains, piece_of, requests_gained, Before, listens, stream, hung_up, PlanRecord, Piece, Coming, Comes, Occurrence, RequestLaws, without_breaks, ReplyEntry, History, JobValue, occurrences, calls_arrived, calls_in, AllStand, Now, all_after, all_started, arriving, breaks_of, entered, next, now_after, now_of, stepped, ConnectionValue, is_open_value}
 use Rattle.std.proofs.Common.{append-nil}
 use Rattle.http_pieces.specs.declared.refusal.Refusal.{Refusal}
-use Rattle.http_pieces.specs.Cut.{Complete, Cut, IsCutText}
+use Rattle.httparse.specs.Grammar.{RequestHead}
+use Rattle.httparse.specs.Spans.{name_and_value}
+use Rattle.http_pieces.specs.Cut.{Complete, Cut, Incomplete, IsCutText, Refused, cut_after, most_head, skip_pairs, with_head, without_block, without_head}
 use Rattle.http_pieces.specs.Fields.{asks_to_close}
-use Rattle.http_pieces.specs.Head.{request_kind}
+use Rattle.http_pieces.specs.Head.{asks_with, body_length, request_kind, request_with, version_of}
 use Rattle.gateway_theory.specs.Core.{IsKnown}
 use Rattle.gateway_theory.specs.lemmas.Adding.{AreBreaks, breaks_join, without_both, MayBreak, Newer, without_these, BeginsFew, StandsNow, adds_event}
 use Rattle.gateway_theory.specs.lemmas.EventLemmas.{gains_unique}
@@ -17,9 +19,30 @@ use Rattle.gateway_theory.specs.lemmas.Events.{MayAll, broken_stays, came, none_
 
 -- ---- a stream has at most 100 requests
 
+-- the same, by the length of its body
+numbered_after : (k : ℕ) (h : RequestHead) (size : Result ℕ Refusal) (after : List ℕ) (q : HttpRequest) (rest : List ℕ)
+    → Complete q rest ≡ cut_after (asks_with size (request_with k h)) after → q.number ≡ k
+numbered_after k h (Err r) after q rest e = absurd (cc)
+numbered_after k h (Ok n) after q rest e = by_test (nat_lt (length after) n) refl
+  where
+    by_test : (t : Bool) → nat_lt (length after) n ≡ t → q.number ≡ k
+    by_test true short = absurd (let same : Complete q rest ≡ Incomplete = rw short at e in cc)
+    by_test false enough =
+        let same : Complete q rest ≡ Complete (request_with k h (take n after)) (drop n after) = rw enough at e in
+        let q_is : q ≡ request_with k h (take n after) = cc in
+        ap (λ (x : HttpRequest). x.number) q_is
+
 -- request k of a text has that number
 numbered : (k : ℕ) (text : List ℕ) (whole : Cut Refusal HttpRequest) (q : HttpRequest) (rest : List ℕ) → whole ≡ Complete q rest → IsCutText (request_kind k) text whole → q.number ≡ k
-numbered k text whole q rest is fact = search arith
+numbered k text whole q rest is (without_block none e) = absurd (by_test (nat_lt (length text) most_head) refl)
+  where
+    by_test : (t : Bool) → nat_lt (length text) most_head ≡ t → ⊥
+    by_test true short = let same : Complete q rest ≡ Incomplete = sym is ∙ rw short at e in cc
+    by_test false long = let same : Complete q rest ≡ Refused (request_kind k).too_large = sym is ∙ rw long at e in cc
+numbered k text whole q rest is (without_head n b other e) = absurd (cc)
+numbered k text whole q rest is (with_head n a b head e) =
+    numbered_after k head.head (body_length (version_of head.head.minor) (map name_and_value head.head.fields)) (drop n text) q rest
+    (sym is ∙ e ∙ ap (λ asked. cut_after asked (drop n text)) head.asks_is)
 
 third_off : (a b c : Bool) → (a || b || c) ≡ false → c ≡ false
 third_off a b c is = grind (arith, nat_tests)
@@ -28,12 +51,12 @@ third_off a b c is = grind (arith, nat_tests)
 few_requests : (k : ℕ) (text : List ℕ) (given : List HttpRequest) (ending : StreamEnd) → k < most_requests → Requests k text given ending
     → (length given + k ≤ most_requests) × ((ending ≡ Closed) ⊎ (length given + k < most_requests))
 few_requests k text [] ending room r = (omega (arith, room), inr (omega (arith, room)))
-few_requests k text (q ∷ given) ending room (rest, cut, by_close) = by_it (closes q) refl (λ is. third_off (is_v10 q.version) (asks_to_close q.fields) (q.number + 1 == most_requests) is) (λ low more. few_requests (suc k) rest given ending low more) by_close
+few_requests k text (q ∷ given) ending room (rest, cut, by_close) = by_it (numbered k (skip_pairs text) (Complete q rest) q rest refl cut) (closes q) refl (λ is. third_off (is_v10 q.version) (asks_to_close q.fields) (q.number + 1 == most_requests) is) (λ low more. few_requests (suc k) rest given ending low more) by_close
   where
-    by_it : (b : Bool) → closes q ≡ b → (closes q ≡ false → (q.number + 1 == most_requests) ≡ false) → (suc k < most_requests → Requests (suc k) rest given ending → (length given + suc k ≤ most_requests) × ((ending ≡ Closed) ⊎ (length given + suc k < most_requests)))
+    by_it : q.number ≡ k → (b : Bool) → closes q ≡ b → (closes q ≡ false → (q.number + 1 == most_requests) ≡ false) → (suc k < most_requests → Requests (suc k) rest given ending → (length given + suc k ≤ most_requests) × ((ending ≡ Closed) ⊎ (length given + suc k < most_requests)))
         → MatchBool b ((given ≡ []) × (ending ≡ Closed)) (Requests (suc k) rest given ending)
         → (suc (length given) + k ≤ most_requests) × ((ending ≡ Closed) ⊎ (suc (length given) + k < most_requests))
-    by_it b is each every fact = search (arith, nat_tests, eq-eqb, numbered)
+    by_it number_is b is each every fact = search (arith, nat_tests, eq-eqb)
 
 -- so many were given, and a refusal counts
 pub few_given : (reader : ReaderValue) (text : List ℕ) (given : List HttpRequest) → HasRead reader text given → length given + refusals reader.reading ≤ most_requests

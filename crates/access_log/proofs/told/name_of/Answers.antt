@@ -6,7 +6,7 @@ use Rattle.access_log.proofs.told.name_of.Goals as goal
 
 -- where there is none
 abbrev nobody : Branch
-nobody = record { name = []; address = []; path = []; timeout_ms = None }
+nobody = record { name = []; address = []; path = []; timeout_ms = None; pass = [] }
 
 abbrev name_in : ℕ → List Branch → List ℕ
 name_in i branches = (slice_index_or branches i nobody).name

@@ -1,4 +1,6 @@
-use Rattle.gateway_replies.proofs.Names.{subst, GivesBytes, ending_for, err_if}
+use Rattle.gateway_replies.proofs.Names.{◌≡◌, subst, GivesBytes, ending_for, err_if}
+use Rattle.gateway_model.specs.declared.entry.ReplyEntry.{ReplyEntry}
+use Rattle.gateway_theory.specs.Replies.{reply_with}
 use Rattle.gateway_replies.proofs.decided.reply_to.Goals as goal
 
 pub returns-in_err-bytes-clause-others : goal.returns-in_err-bytes-clause-others
@@ -10,7 +12,7 @@ returns-in_err-bytes-clause-once g c = err_if c.from_residual.result c.in_err-by
 pub returns : goal.returns
 returns g c =
     record {
-      reply = c.reply_of_call.ensures;
+      reply = subst (λ call. c.reply_of_call.result ≡ reply_with c.args.id (ReplyEntry.Call call)) c.hold_answers.ensures.call c.reply_of_call.ensures;
       gone = c.in_ok-bytes.ensures.gone;
       others = tt;
       stocks = c.bytes_of.ensures.stocks;

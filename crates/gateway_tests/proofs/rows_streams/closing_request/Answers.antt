@@ -1,7 +1,7 @@
 use Rattle.std.proofs.Common.{[], lit≤, refl}
 use Rattle.call_plan.specs.Plan.{join_text}
 use Rattle.http_pieces.specs.Cut.{Complete, IsCut}
-use Rattle.http_pieces.specs.Fields.{has_close}
+use Rattle.http_pieces.specs.Fields.{has_option}
 use Rattle.http_pieces.specs.Head.{request_kind}
 use Rattle.httparse.proofs.OnLiterals.{httparse_on_literals}
 use Rattle.gateway_tests.proofs.OnLiterals.{replies_on_literals, verdicts_on_literals}
@@ -30,7 +30,7 @@ unfolding verdicts_on_literals
 returns-clause-arrival c = refl
 
 pub returns-clause-replies : goal.returns-clause-replies
-unfolding has_close join_text verdicts_on_literals
+unfolding has_option join_text verdicts_on_literals
 returns-clause-replies c = refl
 
 pub returns-clause-reply : goal.returns-clause-reply

@@ -17,4 +17,4 @@ pub returns-clause-requests : goal.returns-clause-requests
 returns-clause-requests c = record { count = refl; reads = unfinished (cut_empty 0) refl; looked = nothing_looked }
 
 pub returns-clause-reply : goal.returns-clause-reply
-returns-clause-reply c = record { reads = (refl, refl, kind_empty reply_kind); looked = nothing_looked }
+returns-clause-reply c = λ framing. record { reads = (refl, refl, kind_empty (reply_kind framing)); looked = nothing_looked }

@@ -9,7 +9,7 @@ pub returns-clause-undone : goal.returns-clause-undone
 returns-clause-undone c u v clients gone e off = off_on (sym off ∙ e.drained)
 
 pub returns-clause-of_its_own : goal.returns-clause-of_its_own
-returns-clause-of_its_own c v s = off_on (sym s.side.drained)
+returns-clause-of_its_own c f v s = off_on (sym s.side.drained)
 
 pub returns-clause-forgotten : goal.returns-clause-forgotten
-returns-clause-forgotten c v s = off_on s.side.drained
+returns-clause-forgotten c f v s = off_on s.side.drained

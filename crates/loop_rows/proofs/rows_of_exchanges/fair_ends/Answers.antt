@@ -1,29 +1,32 @@
-use Rattle.std.proofs.Common.{[], append-nil, false, inl, inr, refl, sym}
+use Rattle.std.proofs.Common.{[], ◌∷◌, false, inl, refl, sym, ◌∙◌}
 use Rattle.std.proofs.lemmas.List.Elements.{All-nil}
 use Rattle.loop_model.specs.Asking.{IsUntouched, request_of, stream_value}
-use Rattle.loop_rows.proofs.ExchangeLemmas.{all_one, found_first, no_some, some_is}
+use Rattle.loop_rows.proofs.ExchangeLemmas.{all_one, answered_by, begins_with_p, found_last, lost_by, lost_by_refusal, no_more, no_some, none_written, not_whole, some_is}
 use Rattle.loop_rows.proofs.rows_of_exchanges.fair_ends.Goals as goal
 
 pub returns-clause-answered : goal.returns-clause-answered
-returns-clause-answered c a j reply given rest cut = record {
-  begun = record { untouched = All-nil IsUntouched; prefix = ([], sym (append-nil (request_of j))); addressed = found_first a j _ _ _ };
-  outcome = λ o is. inr (record { whole = refl; reply = reply; rest = rest; begins = cut; outcome_is = sym (some_is _ o is) });
-}
+returns-clause-answered c f a j reply given rest cut = answered_by f a j given reply rest cut
 
 pub returns-clause-lost : goal.returns-clause-lost
-returns-clause-lost c a j given front more is = record {
-  begun = record { untouched = All-nil IsUntouched; prefix = (more, is); addressed = found_first a j _ _ _ };
-  outcome = λ o same. inl (sym (some_is _ o same));
+returns-clause-lost c f a j given none = lost_by f a j given (λ reply rest whole. not_whole reply rest (c.reply_cut_law.ensures.unique f given _ _ none whole))
+
+pub returns-clause-refused : goal.returns-clause-refused
+returns-clause-refused c f a j fault given cut = lost_by_refusal f a j given (c.reply_cut_law.ensures.unique f) fault cut
+
+pub returns-clause-unwritten : goal.returns-clause-unwritten
+returns-clause-unwritten c f a j given front more b is = record {
+  begun = record { untouched = All-nil IsUntouched; prefix = (b ∷ more, is); addressed = found_last a j _ _ _ };
+  outcome = λ o same. inl (sym (some_is _ o same), λ whole. absurd (no_more front more b (whole ∙ is)));
 }
 
 pub returns-clause-no_memory : goal.returns-clause-no_memory
-returns-clause-no_memory c a j given front more is = record {
-  begun = record { untouched = All-nil IsUntouched; prefix = (more, is); addressed = found_first a j _ _ _ };
+returns-clause-no_memory c f a j given front more is = record {
+  begun = record { untouched = All-nil IsUntouched; prefix = (more, is); addressed = found_last a j _ _ _ };
   outcome = λ o none. absurd (no_some o none);
 }
 
 pub returns-clause-another_tried : goal.returns-clause-another_tried
-returns-clause-another_tried c a j = record {
-  begun = record { untouched = all_one IsUntouched (stream_value a [] [] false) (refl, refl); prefix = (request_of j, refl); addressed = found_first a j _ _ _ };
-  outcome = λ o same. inl (sym (some_is _ o same));
+returns-clause-another_tried c f a j = record {
+  begun = record { untouched = all_one IsUntouched (stream_value a [] [] false) (refl, refl); prefix = (request_of j, refl); addressed = found_last a j _ _ _ };
+  outcome = λ o same. inl (sym (some_is _ o same), λ whole. absurd (none_written (request_of j) (begins_with_p j) (sym whole)));
 }

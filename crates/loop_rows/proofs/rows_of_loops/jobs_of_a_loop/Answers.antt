@@ -7,12 +7,12 @@ use Rattle.loop_rows.proofs.LostLemmas.{begins_at_first, nowhere, second}
 use Rattle.loop_rows.proofs.rows_of_loops.jobs_of_a_loop.Goals as goal
 
 pub returns-clause-asked : goal.returns-clause-asked
-returns-clause-asked c v j = record {
+returns-clause-asked c f v j = record {
   results = refl;
-  fair = All-nil IsFair;
+  fair = All-nil (IsFair f);
   begun = λ i x is. subst (λ t. BeginsRequest t) (second i (asking j) x is) (begins_at_first j);
   jobs = λ p. omega arith;
 }
 
 pub returns-clause-over : goal.returns-clause-over
-returns-clause-over c v e fair = record { results = refl; fair = all_one IsFair e fair; begun = λ i x is. absurd (nowhere i x is); jobs = λ p. omega arith }
+returns-clause-over c f v e fair = record { results = refl; fair = all_one (IsFair f) e fair; begun = λ i x is. absurd (nowhere i x is); jobs = λ p. omega arith }

@@ -7,9 +7,10 @@ use Rattle.loop_rows.proofs.LostLemmas.{alone, side_on}
 use Rattle.loop_rows.proofs.rows_of_loops.jobs_that_go_on.Goals as goal
 
 pub returns-clause-more : goal.returns-clause-more
-returns-clause-more c h v j given got more =
+returns-clause-more c h f v j given got more =
     let y : AskingValue = asked h j [] given (got ++ more) in record {
-      side = side_on v [] [] (j ∷ []);
+      framing = refl;
+      side = side_on f v [] [] (j ∷ []);
       asking = λ i x is.
           let a = alone i (asked h j [] given got) x is in
           (y, inl (ap (λ n. asked_at n (Some y ∷ [])) a.0), subst (λ t. AsksOn t y) a.1 (record { job = refl; found = prefix-refl (h ∷ []); streams = inl record { tried = refl; peer = inr refl; given = prefix-refl given; got = (more, refl) } }));
@@ -17,22 +18,24 @@ returns-clause-more c h v j given got more =
     }
 
 pub returns-clause-another : goal.returns-clause-another
-returns-clause-another c h v j got =
+returns-clause-another c h f v j got =
     let y : AskingValue = asked h j (stream_value h [] [] false ∷ []) [] got in record {
-      side = side_on v [] [] (j ∷ []);
+      framing = refl;
+      side = side_on f v [] [] (j ∷ []);
       asking = λ i x is.
           let a = alone i (asking j) x is in (
             y,
             inl (ap (λ n. asked_at n (Some y ∷ [])) a.0),
-            subst (λ t. AsksOn t y) a.1 (record { job = refl; found = (h ∷ [], refl); streams = inr record { last = stream_value h [] [] false; others = []; tried_are = refl; peer = inl refl; given = prefix-refl []; got = prefix-refl [] } }),
+            subst (λ t. AsksOn t y) a.1 (record { job = refl; found = (h ∷ h ∷ [], refl); streams = inr record { last = stream_value h [] [] false; others = []; tried_are = refl; peer = inl refl; given = prefix-refl []; got = prefix-refl [] } }),
           );
       ended = prefix-refl [];
     }
 
 pub returns-clause-over : goal.returns-clause-over
-returns-clause-over c h v j given got more o =
+returns-clause-over c h f v j given got more o =
     let y : AskingValue = asked h j [] (given ++ more) got in record {
-      side = side_on v [] ((j, o) ∷ []) (j ∷ []);
+      framing = refl;
+      side = side_on f v [] ((j, o) ∷ []) (j ∷ []);
       asking = λ i x is.
           let a = alone i (asked h j [] given got) x is in (
             y,

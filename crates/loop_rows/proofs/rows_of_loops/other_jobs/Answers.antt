@@ -1,36 +1,32 @@
-use Rattle.std.proofs.Common.{[], ◌++◌, true, length, ap, arith, codes, refl, ⊎_elim}
+use Rattle.std.proofs.Common.{[], ◌++◌, true, length, ap, arith, codes, refl}
 use Rattle.loop_model.specs.Asking.{request_of}
-use Rattle.loop_rows.specs.LoopRows.{asked, asked_at_peer}
+use Rattle.loop_rows.specs.LoopRows.{asked}
 use Rattle.loop_rows.proofs.RowLemmas.{other_first}
 use Rattle.loop_rows.proofs.ExchangeLemmas.{begins_with_p, first_outcome, job_number, longer_than_none, some_outcome}
 use Rattle.loop_rows.proofs.rows_of_loops.other_jobs.Goals as goal
 
 pub returns-clause-dropped : goal.returns-clause-dropped
-returns-clause-dropped c v j a = omega (arith, a.jobs (λ k. true))
+returns-clause-dropped c f v j a = omega (arith, a.jobs (λ k. true))
 
 pub returns-clause-untaken : goal.returns-clause-untaken
-returns-clause-untaken c v j a = omega (arith, a.jobs (λ k. true))
+returns-clause-untaken c f v j a = omega (arith, a.jobs (λ k. true))
 
 pub returns-clause-twice : goal.returns-clause-twice
-returns-clause-twice c v e a = omega (arith, ap (λ l. length l) a.results)
+returns-clause-twice c f v e a = omega (arith, ap (λ l. length l) a.results)
 
 pub returns-clause-never : goal.returns-clause-never
-returns-clause-never c v e a = omega (arith, ap (λ l. length l) a.results)
+returns-clause-never c f v e a = omega (arith, ap (λ l. length l) a.results)
 
 pub returns-clause-another : goal.returns-clause-another
-returns-clause-another c h v o a = omega (arith, ap job_number a.results)
+returns-clause-another c h f v o a = omega (arith, ap job_number a.results)
 
 pub returns-clause-otherwise : goal.returns-clause-otherwise
-returns-clause-otherwise c h v j o a = some_outcome o (ap first_outcome a.results)
+returns-clause-otherwise c h f v j o a = some_outcome o (ap first_outcome a.results)
 
 pub returns-clause-request : goal.returns-clause-request
-returns-clause-request c h v j a =
+returns-clause-request c h f v j a =
     let b = (a.begun 0 (asked h j [] [] (codes "GET")) refl).prefix in
     other_first (request_of j) (codes "GET" ++ b.0) (λ f. omega (arith, f, begins_with_p j)) b.1
 
-pub returns-clause-elsewhere : goal.returns-clause-elsewhere
-returns-clause-elsewhere c v j b other a =
-    ⊎_elim (λ own. other own) (λ there. omega (arith, there.1)) ((a.begun 0 (asked_at_peer b [] j) refl).addressed.peer b refl)
-
 pub returns-clause-anew : goal.returns-clause-anew
-returns-clause-anew c v e s = longer_than_none e s.ended.0 s.ended.1
+returns-clause-anew c f v e s = longer_than_none e s.ended.0 s.ended.1

@@ -1,4 +1,5 @@
 use Rattle.branch_asking.proofs.Words.{sym, ◌∙◌}
+use Rattle.branch_asking.proofs.AddressLemmas.{peers_first, peers_noted}
 use Rattle.branch_asking.proofs.BegunLemmas.{asks_again, asks_first, begun_connects, noted_untouched}
 use Rattle.branch_asking.proofs.asking.Asking.connect.Goals as goal
 
@@ -6,24 +7,26 @@ pub invariant_of-self-in-Some-connect : goal.invariant_of-self-in-Some-connect
 invariant_of-self-in-Some-connect g c =
     let i = c.self.inside in
     let untouched = c.is_connected.ensures.untouched c.if-is_connected.false in
-    begun_connects i.job i.addresses c.next.new.self i.attempt c.connect.new.self c.in-Some.address i.end i.tried.items c.and-self-inside.result.items c.connect-stream.result (sym c.is_some.ensures ∙ c.if-is_some.false)
-    c.in-Some.ensures.next c.in-Some.ensures.found untouched c.connect-stream.ensures.fresh c.connect.ensures.fresh
+    begun_connects i.framing i.job i.addresses c.next.new.self i.attempt c.connect.new.self c.in-Some.address i.tried.items c.and-self-inside.result.items i.end c.connect-stream.result (sym c.is_some.ensures ∙ c.if-is_some.false)
+    c.in-Some.ensures.next c.in-Some.ensures.found c.in-Some.ensures.known
+    (peers_noted i.tried.items c.and-self-inside.result.items c.in-Some-connect.before i.attempt.peer c.in-Some.address c.and-self-inside.ensures c.in-Some-connect.ensures.before.2) untouched c.connect-stream.ensures.fresh c.connect.ensures.fresh
     (noted_untouched i.tried.items c.and-self-inside.result.items c.in-Some-connect.before i.attempt c.and-self-inside.ensures c.in-Some-connect.ensures.before untouched c.self.invariant.untouched) c.self.invariant
 
 pub invariant_of-self-in_default-connect : goal.invariant_of-self-in_default-connect
 invariant_of-self-in_default-connect g c =
     let i = c.self.inside in
-    begun_connects i.job i.addresses c.next.new.self i.attempt c.connect.new.self c.in-Some.address i.end i.tried.items i.tried.items c.connect-stream.result (sym c.is_some.ensures ∙ c.if-is_some.false)
-    c.in-Some.ensures.next c.in-Some.ensures.found (c.is_connected.ensures.untouched c.if-is_connected.false) c.connect-stream.ensures.fresh c.connect.ensures.fresh c.self.invariant.untouched c.self.invariant
+    begun_connects i.framing i.job i.addresses c.next.new.self i.attempt c.connect.new.self c.in-Some.address i.tried.items i.tried.items i.end c.connect-stream.result (sym c.is_some.ensures ∙ c.if-is_some.false)
+    c.in-Some.ensures.next c.in-Some.ensures.found c.in-Some.ensures.known
+    (peers_first i.tried.items i.attempt.peer c.in-Some.address (c.connect.ensures.first c.in_default-connect.is)) (c.is_connected.ensures.untouched c.if-is_connected.false) c.connect-stream.ensures.fresh c.connect.ensures.fresh c.self.invariant.untouched c.self.invariant
 
 pub returns-in-Some-connect-clause-on : goal.returns-in-Some-connect-clause-on
 returns-in-Some-connect-clause-on g c =
     let i = c.self.inside in
     rw (← c.self.view_is)
-    (asks_again i.job i.addresses c.next.new.self i.attempt c.connect.new.self i.end i.tried.items c.and-self-inside.result.items c.in-Some-connect.before c.in-Some.ensures.found c.and-self-inside.ensures c.in-Some-connect.ensures.before)
+    (asks_again i.framing i.job i.addresses c.next.new.self i.attempt c.connect.new.self i.end i.tried.items c.and-self-inside.result.items c.in-Some-connect.before c.in-Some.ensures.found c.and-self-inside.ensures c.in-Some-connect.ensures.before)
 
 pub returns-in_default-connect-clause-on : goal.returns-in_default-connect-clause-on
 returns-in_default-connect-clause-on g c =
     let i = c.self.inside in
     rw (← c.self.view_is)
-    (asks_first i.job i.addresses c.next.new.self i.attempt c.connect.new.self i.end i.tried.items c.in-Some.ensures.found (c.connect.ensures.first c.in_default-connect.is) (c.is_connected.ensures.untouched c.if-is_connected.false))
+    (asks_first i.framing i.job i.addresses c.next.new.self i.attempt c.connect.new.self i.end i.tried.items c.in-Some.ensures.found (c.connect.ensures.first c.in_default-connect.is) (c.is_connected.ensures.untouched c.if-is_connected.false))

@@ -5,6 +5,6 @@ use Rattle.gateway_loop.proofs.clients.Clients.note_ready.Goals.{in-Some, in_def
 
 pub invariant_of-self : goal.invariant_of-self
 invariant_of-self g c u = elim c.match-get_mut.branch [
-  | in-Some w ↦ rw w.self-inside-is (rw (set_same _ _ _ (sym w.in-Some.ensures.value)) (c.self.invariant u))
+  | in-Some w ↦ rw w.self-inside-is (rw w.report.ensures (rw (set_same _ _ _ (sym w.in-Some.ensures.value)) (c.self.invariant u)))
   | in_default w ↦ rw w.self-inside-is (c.self.invariant u)
 ]

@@ -3,12 +3,14 @@ use Rattle.gateway_loop.proofs.AskLemmas.{goes_side, keeps_asking}
 use Rattle.gateway_loop.proofs.exchanges.Exchanges.open.Goals as goal
 
 pub returns-clause-goes : goal.returns-clause-goes
-returns-clause-goes g c = rw (← c.self.view_is) (goes_side _ _ c.open.ensures.goes refl refl)
+returns-clause-goes g c = rw (← c.self.view_is) (goes_side _ _ refl c.open.ensures.goes refl refl)
 
 pub returns-clause-told : goal.returns-clause-told
 returns-clause-told g c = rw (← c.self.view_is) c.open.ensures.told
 
 pub invariant_of-self : goal.invariant_of-self
 invariant_of-self g c =
-    let i = c.self.inside in
-    keeps_asking (whole_loop i.clients i.asking.slots i.ended.items) (whole_loop c.open.new.self i.asking.slots i.ended.items) c.open.ensures.hands refl refl c.self.invariant
+    let i = c.self.inside in (
+      keeps_asking (whole_loop i.framing i.clients i.asking.slots i.ended.items) (whole_loop i.framing c.open.new.self i.asking.slots i.ended.items) refl c.open.ensures.hands refl refl c.self.invariant.0,
+      c.self.invariant.1,
+    )

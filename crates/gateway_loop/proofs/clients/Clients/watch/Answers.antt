@@ -1,0 +1,10 @@
+use Rattle.gateway_loop.proofs.Words.{sym}
+use Rattle.gateway_loop.proofs.Places.{set_same}
+use Rattle.gateway_loop.proofs.clients.Clients.watch.Goals as goal
+use Rattle.gateway_loop.proofs.clients.Clients.watch.Goals.{in-Some, in-None}
+
+pub invariant_of-self : goal.invariant_of-self
+invariant_of-self g c u = elim c.match-get_mut.branch [
+  | in-Some w ↦ rw w.self-inside-is (rw w.watch.ensures.same (rw (set_same _ _ _ (sym w.in-Some.ensures.value)) (c.self.invariant u)))
+  | in-None w ↦ rw w.self-inside-is (c.self.invariant u)
+]

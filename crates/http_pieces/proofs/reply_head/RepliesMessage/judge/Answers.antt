@@ -1,7 +1,0 @@
-use Rattle.http_pieces.proofs.ReplyLemmas.{judged_reply}
-use Rattle.http_pieces.proofs.reply_head.RepliesMessage.judge.Goals as goal
-
-pub returns : goal.returns
-returns c =
-    let read = c.in-Some.ensures.1 in
-    judged_reply _ _ _ _ _ _ read.0 _ read.1 c.in-Ok.ensures (c.in_ok-content_type.ensures _ c.find_field.ensures) c.closes_after.ensures

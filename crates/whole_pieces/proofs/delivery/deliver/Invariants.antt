@@ -1,9 +1,0 @@
-use Rattle.std.proofs.Common.{length}
-use Rattle.whole_pieces.proofs.PieceParts.{Delivery}
-use Rattle.whole_pieces.proofs.delivery.deliver.Given as goal
-
-abbrev pub invariant-loop-taken : goal.invariant-loop-taken
-invariant-loop-taken g l = Delivery l.conn l.piece l.rest l.initial.core l.core
-
-abbrev pub decreases-loop-taken : goal.decreases-loop-taken
-decreases-loop-taken g l = length l.rest
