@@ -1,5 +1,5 @@
 -- What a job that is asked for has begun.
-use Rattle.branch_asking.proofs.Words.{◌≡◌, ℕ, Bool, true, false, List, [], ◌∷◌, ◌++◌, All, map, Option, None, Some, refl, sym, ap, ◌∙◌, subst, is_some, All-nil, All-push, map-append, HandedJob, IsPrefixOf, AsksOn, BeginsRequest, IsUntouched, StreamValue, inl, inr, request_of, peers_of, stream_value, SocketAddr, AddressesValue, AreOf, addresses_value, next_of, Asks, AskingState, AttemptValue, HadStream, HasBegun, HasEnded, HasGrown, IsUnsent, IsUntouchedAttempt, asked_for, asking_state, attempt_value}
+use Rattle.branch_asking.proofs.Words.{◌≡◌, ℕ, Bool, true, false, List, [], ◌∷◌, ◌++◌, All, map, Option, None, Some, refl, sym, ap, ◌∙◌, subst, is_some, All-nil, All-push, map-append, HandedJob, IsPrefixOf, AsksOn, BeginsRequest, IsUntouched, StreamValue, inl, inr, request_of, peers_of, stream_value, SocketAddr, AddressesValue, AreOf, addresses_value, next_of, Asks, AskingState, AttemptValue, HadStream, HasBegun, HasEnded, HasGrown, IsUnsent, IsUntouchedAttempt, asked_for, asking_state, attempt_value, BackendValue, backend_value}
 use Rattle.std.proofs.lemmas.Bool.Decides.{nat_tests}
 use Rattle.std.proofs.Common.{arith, append-nil, append_assoc, length, take, drop, ◌⊎◌, ⊎_elim}
 use Rattle.std.specs.Prelude.{IfSome, MatchOption}
@@ -12,7 +12,9 @@ use Rattle.branch_exchange.specs.declared.asked.Asked.{Asked}
 use Rattle.branch_exchange.specs.declared.asked.Asked.TheVariants.{Lost}
 use Rattle.connect_codec.specs.Outcome.{outcome_of}
 use Rattle.connect_codec.specs.declared.answer.Outcome.{Outcome}
-use Rattle.loop_model.specs.Asking.{IsAnswered, IsFair, IsUnanswered, ended_value}
+use Rattle.loop_model.specs.Asking.{AskingValue, IsAnswered, IsFair, IsUnanswered, ended_value}
+use Rattle.branch_asking.specs.Asking.{noted_attempt}
+use Rattle.wires.specs.declared.ready.Ready.{Ready}
 use Rattle.branch_exchange.specs.declared.exchange_end.Loss.{Loss}
 use Rattle.branch_exchange.specs.declared.exchange_end.ExchangeEnd.{ExchangeEnd}
 use Rattle.branch_exchange.specs.declared.exchange_end.ExchangeEnd.TheVariants as ends
@@ -46,19 +48,19 @@ some_none a e = cc
 none_of : (end : Option ExchangeEnd) → is_some end ≡ false → end ≡ None
 none_of end h1 = grind (arith, nat_tests)
 
-none_tried : (items : List (StreamValue × Bool)) (peer : Option SocketAddr) → items ≡ [] → peer ≡ None → peers_of (map (λ (t : StreamValue × Bool). t.0) items) peer ≡ []
+none_tried : (items : List (BackendValue × Bool)) (peer : Option SocketAddr) → items ≡ [] → peer ≡ None → peers_of (map (λ (t : BackendValue × Bool). t.0.stream) items) peer ≡ []
 none_tried items peer none alone =
-    ap (λ (l : List (StreamValue × Bool)). peers_of (map (λ (t : StreamValue × Bool). t.0) l) peer) none ∙ ap (λ (o : Option SocketAddr). peers_of [] o) alone
+    ap (λ (l : List (BackendValue × Bool)). peers_of (map (λ (t : BackendValue × Bool). t.0.stream) l) peer) none ∙ ap (λ (o : Option SocketAddr). peers_of [] o) alone
 
 module _ (framing : Framing) (job : HandedJob) (addresses : AddressesValue) (x : AttemptValue) where
   -- it begins, or there is no memory for its request
-  pub new_begins : (end : Option ExchangeEnd) (items : List (StreamValue × Bool)) → items ≡ [] → addresses ≡ addresses_value None [] false [] → x.peer ≡ None → IsUntouchedAttempt x
+  pub new_begins : (end : Option ExchangeEnd) (items : List (BackendValue × Bool)) → items ≡ [] → addresses ≡ addresses_value None [] false [] → x.peer ≡ None → IsUntouchedAttempt x
       → (end ≡ Some ends.NoMemory) ⊎ ((end ≡ None) × Asks framing (request_of job.job) x) → HasBegun (asking_state framing job addresses x end items)
   new_begins end items none new alone fresh begins = record {
-    untouched = subst (λ (l : List (StreamValue × Bool)). All IsUntouched (map (λ (t : StreamValue × Bool). t.0) l)) (sym none) (All-nil IsUntouched);
+    untouched = subst (λ (l : List (BackendValue × Bool)). All IsUntouched (map (λ (t : BackendValue × Bool). t.0.stream) l)) (sym none) (All-nil IsUntouched);
     unsent = λ is. fresh.0;
     given =
-        subst (λ (v : AddressesValue). AreOf job.job.address (peers_of (map (λ (t : StreamValue × Bool). t.0) items) x.peer) v) (sym new)
+        subst (λ (v : AddressesValue). AreOf job.job.address (peers_of (map (λ (t : BackendValue × Bool). t.0.stream) items) x.peer) v) (sym new)
         (new_are job.job.address _ (none_tried items x.peer none alone));
     asks = λ e. ⊎_elim (λ (starved : end ≡ Some ends.NoMemory). absurd (some_none ends.NoMemory (sym starved ∙ e))) (λ (goes : (end ≡ None) × Asks framing (request_of job.job) x). goes.1) begins;
     ended = λ e is.
@@ -73,28 +75,39 @@ module _ (framing : Framing) (job : HandedJob) (addresses : AddressesValue) (x :
   }
 
   -- it goes on
-  pub begun_on : (y : AttemptValue) (end : Option ExchangeEnd) (items : List (StreamValue × Bool)) → is_some end ≡ false → HasGrown x y
+  pub begun_on : (y : AttemptValue) (end : Option ExchangeEnd) (items : List (BackendValue × Bool)) → is_some end ≡ false → HasGrown x y
       → IsUnsent y → (Asks framing (request_of job.job) x → Asks framing (request_of job.job) y)
       → HasBegun (asking_state framing job addresses x end items) → HasBegun (asking_state framing job addresses y end items)
   begun_on y end items off grown unsent goes b = record {
     untouched = b.untouched;
     unsent = unsent;
-    given = tried_are job.job.address _ _ addresses (ap (λ (o : Option SocketAddr). peers_of (map (λ (t : StreamValue × Bool). t.0) items) o) grown.2) b.given;
+    given = tried_are job.job.address _ _ addresses (ap (λ (o : Option SocketAddr). peers_of (map (λ (t : BackendValue × Bool). t.0.stream) items) o) grown.2) b.given;
     asks = λ e. goes (b.asks e);
     ended = λ e is. absurd (some_none e (sym is ∙ none_of end off));
   }
 
   -- it ended
-  pub begun_ends : (y : AttemptValue) (end now : Option ExchangeEnd) (e : ExchangeEnd) (items : List (StreamValue × Bool)) → is_some end ≡ false → now ≡ Some e
+  pub begun_ends : (y : AttemptValue) (end now : Option ExchangeEnd) (e : ExchangeEnd) (items : List (BackendValue × Bool)) → is_some end ≡ false → now ≡ Some e
       → HasGrown x y → IsUnsent y → (Asks framing (request_of job.job) x → HasEnded framing (request_of job.job) e y)
       → HasBegun (asking_state framing job addresses x end items) → HasBegun (asking_state framing job addresses y now items)
   begun_ends y end now e items off is grown unsent ends b = record {
     untouched = b.untouched;
     unsent = unsent;
-    given = tried_are job.job.address _ _ addresses (ap (λ (o : Option SocketAddr). peers_of (map (λ (t : StreamValue × Bool). t.0) items) o) grown.2) b.given;
+    given = tried_are job.job.address _ _ addresses (ap (λ (o : Option SocketAddr). peers_of (map (λ (t : BackendValue × Bool). t.0.stream) items) o) grown.2) b.given;
     asks = λ none. absurd (some_none e (sym is ∙ none));
     ended = λ f so. subst (λ (t : ExchangeEnd). HasEnded framing (request_of job.job) t y) (some_end e f (sym is ∙ so)) (ends (b.asks (none_of end off)));
   }
+
+-- something became known of its stream
+pub begun_noted : (framing : Framing) (job : HandedJob) (addresses : AddressesValue) (x : AttemptValue) (ready : Ready) (end : Option ExchangeEnd) (items : List (BackendValue × Bool))
+    → HasBegun (asking_state framing job addresses x end items) → HasBegun (asking_state framing job addresses (noted_attempt ready x) end items)
+begun_noted framing job addresses x ready end items b = record {
+  untouched = b.untouched;
+  unsent = b.unsent;
+  given = b.given;
+  asks = λ e. let a = b.asks e in record { sends = a.sends; reads = a.reads; goes_on = a.goes_on };
+  ended = λ e is. let h = b.ended e is in record { prefix = h.prefix; whole = h.whole; unanswered = h.unanswered };
+}
 
 -- where nothing was written or read since it is lost
 pub lost_ends : (framing : Framing) (request : List ℕ) (x y : AttemptValue) (loss : Loss) → y.got ≡ x.got → y.given ≡ x.given → Asks framing request x → HasEnded framing request (ends.Lost loss) y
@@ -105,27 +118,27 @@ lost_ends framing request x y loss same none a = record {
 }
 
 -- some more of the request was written
-pub sent_asks : (framing : Framing) (request : List ℕ) (e f : ExchangeValue) (s t : StreamValue) (connected : Bool) (n : ℕ) (waiting : List ℕ) → waiting ≡ e.left
-    → f ≡ exchange_value (drop n e.left) e.replies → t ≡ stream_value s.peer s.given t.got s.ended → t.got ≡ s.got ++ take n waiting
+pub sent_asks : (framing : Framing) (request : List ℕ) (e f : ExchangeValue) (s t : BackendValue) (connected : Bool) (n : ℕ) (waiting : List ℕ) → waiting ≡ e.left
+    → f ≡ exchange_value (drop n e.left) e.replies → t.stream ≡ stream_value s.stream.peer s.stream.given t.stream.got s.stream.ended → t.stream.got ≡ s.stream.got ++ take n waiting
     → Asks framing request (attempt_value e (Some s) connected) → Asks framing request (attempt_value f (Some t) true)
 sent_asks framing request e f s t connected n waiting all left rest more a = record {
   sends =
-      ap (λ (g : List ℕ). g ++ f.left) more ∙ ap (λ (w : List ℕ). (s.got ++ take n w) ++ f.left) all ∙ ap (λ (v : ExchangeValue). (s.got ++ take n e.left) ++ v.left) left
-      ∙ append_assoc s.got (take n e.left) (drop n e.left)
-      ∙ ap (λ (l : List ℕ). s.got ++ l) (take-append-drop n e.left)
+      ap (λ (g : List ℕ). g ++ f.left) more ∙ ap (λ (w : List ℕ). (s.stream.got ++ take n w) ++ f.left) all ∙ ap (λ (v : ExchangeValue). (s.stream.got ++ take n e.left) ++ v.left) left
+      ∙ append_assoc s.stream.got (take n e.left) (drop n e.left)
+      ∙ ap (λ (l : List ℕ). s.stream.got ++ l) (take-append-drop n e.left)
       ∙ a.sends;
   reads =
-      subst (λ (v : ExchangeValue). IsReading framing v.replies t.given) (sym left)
+      subst (λ (v : ExchangeValue). IsReading framing v.replies t.stream.given) (sym left)
       (subst (λ (v : StreamValue). IsReading framing e.replies v.given) (sym rest) a.reads);
   goes_on = ap (λ (v : StreamValue). v.ended) rest ∙ a.goes_on;
 }
 
 -- a piece was read, and no reply is whole yet
-pub read_asks : (framing : Framing) (request : List ℕ) (e f : ExchangeValue) (s t : StreamValue) (connected : Bool) (piece : List ℕ) → f.left ≡ e.left
-    → t ≡ stream_value s.peer t.given s.got t.ended → t.given ≡ s.given ++ piece → t.ended ≡ s.ended → IsReading framing f.replies (s.given ++ piece)
+pub read_asks : (framing : Framing) (request : List ℕ) (e f : ExchangeValue) (s t : BackendValue) (connected : Bool) (piece : List ℕ) → f.left ≡ e.left
+    → t.stream ≡ stream_value s.stream.peer t.stream.given s.stream.got t.stream.ended → t.stream.given ≡ s.stream.given ++ piece → t.stream.ended ≡ s.stream.ended → IsReading framing f.replies (s.stream.given ++ piece)
     → Asks framing request (attempt_value e (Some s) connected) → Asks framing request (attempt_value f (Some t) true)
 read_asks framing request e f s t connected piece left rest more ended comes a = record {
-  sends = ap (λ (l : List ℕ). t.got ++ l) left ∙ ap (λ (v : StreamValue). v.got ++ e.left) rest ∙ a.sends;
+  sends = ap (λ (l : List ℕ). t.stream.got ++ l) left ∙ ap (λ (v : StreamValue). v.got ++ e.left) rest ∙ a.sends;
   reads = subst (λ (g : List ℕ). IsReading framing f.replies g) (sym more) comes;
   goes_on = ended ∙ a.goes_on;
 }
@@ -134,34 +147,34 @@ nothing_left : (got left : List ℕ) → got ++ left ≡ got → left ≡ []
 nothing_left got left e = nil_from_length left (omega (arith, length-append got left, ap (λ (l : List ℕ). length l) e))
 
 -- .. or it ended by that
-pub read_ends : (framing : Framing) (request : List ℕ) (e f : ExchangeValue) (s t : StreamValue) (connected : Bool) (piece : List ℕ) (end : ExchangeEnd)
-    → t ≡ stream_value s.peer t.given s.got t.ended → t.given ≡ s.given ++ piece → ComesTo framing e.left f.replies (s.given ++ piece) (Some end)
+pub read_ends : (framing : Framing) (request : List ℕ) (e f : ExchangeValue) (s t : BackendValue) (connected : Bool) (piece : List ℕ) (end : ExchangeEnd)
+    → t.stream ≡ stream_value s.stream.peer t.stream.given s.stream.got t.stream.ended → t.stream.given ≡ s.stream.given ++ piece → ComesTo framing e.left f.replies (s.stream.given ++ piece) (Some end)
     → Asks framing request (attempt_value e (Some s) connected) → HasEnded framing request end (attempt_value f (Some t) true)
 read_ends framing request e f s t connected piece end rest more comes a = record {
   prefix = (e.left, sym (ap (λ (v : StreamValue). v.got ++ e.left) rest ∙ a.sends));
   whole = λ reply is. whole_by end comes reply is;
-  unanswered = λ loss is whole. unanswered_by end comes loss is (nothing_left s.got e.left (a.sends ∙ sym whole ∙ ap (λ (v : StreamValue). v.got) rest));
+  unanswered = λ loss is whole. unanswered_by end comes loss is (nothing_left s.stream.got e.left (a.sends ∙ sym whole ∙ ap (λ (v : StreamValue). v.got) rest));
 }
   where
-    all_sent : e.left ≡ [] → t.got ≡ request
-    all_sent none = ap (λ (v : StreamValue). v.got) rest ∙ sym (append-nil s.got) ∙ ap (λ (l : List ℕ). s.got ++ l) (sym none) ∙ a.sends
+    all_sent : e.left ≡ [] → t.stream.got ≡ request
+    all_sent none = ap (λ (v : StreamValue). v.got) rest ∙ sym (append-nil s.stream.got) ∙ ap (λ (l : List ℕ). s.stream.got ++ l) (sym none) ∙ a.sends
 
-    whole_by : (end : ExchangeEnd) → ComesTo framing e.left f.replies (s.given ++ piece) (Some end) → (reply : HttpReply) → end ≡ ends.Reply reply
-        → (t.got ≡ request) × BeginsWithReply framing t.given reply
+    whole_by : (end : ExchangeEnd) → ComesTo framing e.left f.replies (s.stream.given ++ piece) (Some end) → (reply : HttpReply) → end ≡ ends.Reply reply
+        → (t.stream.got ≡ request) × BeginsWithReply framing t.stream.given reply
     whole_by (ends.Reply r) c reply is = (
       all_sent c.1,
-      subst (λ (g : List ℕ). BeginsWithReply framing g reply) (sym more) (subst (λ (q : HttpReply). BeginsWithReply framing (s.given ++ piece) q) (same_reply r reply is) c.0),
+      subst (λ (g : List ℕ). BeginsWithReply framing g reply) (sym more) (subst (λ (q : HttpReply). BeginsWithReply framing (s.stream.given ++ piece) q) (same_reply r reply is) c.0),
     )
     whole_by (ends.Lost loss) c reply is = absurd (is_no_reply loss reply is)
     whole_by ends.NoMemory c reply is = absurd (no_reply reply is)
 
-    unanswered_by : (end : ExchangeEnd) → ComesTo framing e.left f.replies (s.given ++ piece) (Some end) → (loss : Loss) → end ≡ ends.Lost loss → e.left ≡ [] → HasNoReply framing t.given
+    unanswered_by : (end : ExchangeEnd) → ComesTo framing e.left f.replies (s.stream.given ++ piece) (Some end) → (loss : Loss) → end ≡ ends.Lost loss → e.left ≡ [] → HasNoReply framing t.stream.given
     unanswered_by (ends.Reply r) c loss is none = absurd (is_no_loss r loss is)
     unanswered_by (ends.Lost l) c loss is none = subst (λ (g : List ℕ). HasNoReply framing g) (sym more) (c.1 none)
     unanswered_by ends.NoMemory c loss is none = absurd (no_loss loss is)
 
 -- it is lost, or there is no memory for it
-pub begun_lost : (framing : Framing) (job : HandedJob) (addresses : AddressesValue) (x : AttemptValue) (end : Option ExchangeEnd) (now : ExchangeEnd) (items : List (StreamValue × Bool)) (loss : Option Loss)
+pub begun_lost : (framing : Framing) (job : HandedJob) (addresses : AddressesValue) (x : AttemptValue) (end : Option ExchangeEnd) (now : ExchangeEnd) (items : List (BackendValue × Bool)) (loss : Option Loss)
     → is_some end ≡ false → MatchOption loss (now ≡ ends.NoMemory) (λ l. now ≡ ends.Lost l)
     → HasBegun (asking_state framing job addresses x end items) → HasBegun (asking_state framing job addresses x (Some now) items)
 begun_lost framing job addresses x end now items loss off told b =
@@ -223,26 +236,42 @@ module _ (x : AskingState) (begun : HasBegun x) where
     outcome = λ o is. inl (sym (one_outcome (outcome_of None) o (tells ∙ is)), λ whole. (begun.asks ended).reads.unanswered);
   }
 
+-- it counts for nothing whether it is over
+pub fair_over : (framing : Framing) (x : AskingValue) (over : Bool) (o : Option Outcome) → IsFair framing (ended_value x o) → IsFair framing (ended_value (record x { over = over }) o)
+fair_over framing x over o f = record {
+  begun =
+      let b = f.begun in record {
+        untouched = b.untouched;
+        prefix = b.prefix;
+        addressed = let a = b.addressed in record { later = a.later; in_order = a.in_order; none = a.none };
+      };
+  outcome = λ out is.
+      ⊎_elim
+      (λ (lost : (out ≡ outcome_of None) × IsUnanswered framing x). inl (lost.0, lost.1))
+      (λ (a : IsAnswered framing x out). inr record { whole = a.whole; reply = a.reply; rest = a.rest; begins = a.begins; outcome_is = a.outcome_is })
+      (f.outcome out is);
+}
+
 -- its addresses changed
-pub begun_addresses : (framing : Framing) (job : HandedJob) (x y : AddressesValue) (s : AttemptValue) (end : Option ExchangeEnd) (items : List (StreamValue × Bool))
+pub begun_addresses : (framing : Framing) (job : HandedJob) (x y : AddressesValue) (s : AttemptValue) (end : Option ExchangeEnd) (items : List (BackendValue × Bool))
     → ((tried : List SocketAddr) → AreOf job.job.address tried x → AreOf job.job.address tried y)
     → HasBegun (asking_state framing job x s end items) → HasBegun (asking_state framing job y s end items)
 begun_addresses framing job x y s end items are b = record { untouched = b.untouched; unsent = b.unsent; given = are _ b.given; asks = b.asks; ended = b.ended }
 
 -- it goes over a stream to the next of its addresses
-module _ (framing : Framing) (job : HandedJob) (x y : AddressesValue) (s t : AttemptValue) (address : SocketAddr) (items later : List (StreamValue × Bool)) where
-  abbrev fresh : AttemptValue
-  fresh = attempt_value s.exchange (Some (stream_value address [] [] false)) false
+module _ (framing : Framing) (job : HandedJob) (x y : AddressesValue) (s t : AttemptValue) (address : SocketAddr) (items later : List (BackendValue × Bool)) where
+  abbrev fresh : Bool → Bool → AttemptValue
+  fresh reads writes = attempt_value s.exchange (Some (backend_value (stream_value address [] [] false) reads writes)) false
 
   -- it comes behind those that were tried
   abbrev Follows : Type 0
   Follows =
-      peers_of (map (λ (t : StreamValue × Bool). t.0) later) (Some address) ≡ peers_of (map (λ (t : StreamValue × Bool). t.0) items) s.peer ++ address ∷ []
+      peers_of (map (λ (t : BackendValue × Bool). t.0.stream) later) (Some address) ≡ peers_of (map (λ (t : BackendValue × Bool). t.0.stream) items) s.peer ++ address ∷ []
 
-  fresh_begins : (end : Option ExchangeEnd) → is_some end ≡ false → next_of x ≡ address ∷ next_of y → y.found ≡ x.found → y.known ≡ x.known → Follows
-      → IsUntouchedAttempt s → All IsUntouched (map (λ (u : StreamValue × Bool). u.0) later)
-      → HasBegun (asking_state framing job x s end items) → HasBegun (asking_state framing job y fresh end later)
-  fresh_begins end off next same known follows touched untouched b = record {
+  fresh_begins : (reads writes : Bool) (end : Option ExchangeEnd) → is_some end ≡ false → next_of x ≡ address ∷ next_of y → y.found ≡ x.found → y.known ≡ x.known → Follows
+      → IsUntouchedAttempt s → All IsUntouched (map (λ (u : BackendValue × Bool). u.0.stream) later)
+      → HasBegun (asking_state framing job x s end items) → HasBegun (asking_state framing job y (fresh reads writes) end later)
+  fresh_begins reads writes end off next same known follows touched untouched b = record {
     untouched = untouched;
     unsent = λ is. absurd (some_no_peer address is);
     given = taken_are job.job.address _ _ x y address next same known follows b.given;
@@ -257,29 +286,29 @@ module _ (framing : Framing) (job : HandedJob) (x y : AddressesValue) (s t : Att
       some_no_peer : (a : SocketAddr) → Some a ≡ None → ⊥
       some_no_peer a e = cc
 
-  pub begun_connects : (end : Option ExchangeEnd) (stream : StreamValue) → is_some end ≡ false → next_of x ≡ address ∷ next_of y
-      → y.found ≡ x.found → y.known ≡ x.known → Follows → IsUntouchedAttempt s → stream ≡ stream_value address [] [] false → t ≡ attempt_value s.exchange (Some stream) false
-      → All IsUntouched (map (λ (u : StreamValue × Bool). u.0) later)
+  pub begun_connects : (end : Option ExchangeEnd) (backend : BackendValue) → is_some end ≡ false → next_of x ≡ address ∷ next_of y
+      → y.found ≡ x.found → y.known ≡ x.known → Follows → IsUntouchedAttempt s → backend.stream ≡ stream_value address [] [] false → t ≡ attempt_value s.exchange (Some backend) false
+      → All IsUntouched (map (λ (u : BackendValue × Bool). u.0.stream) later)
       → HasBegun (asking_state framing job x s end items) → HasBegun (asking_state framing job y t end later)
-  begun_connects end stream off next same known follows touched is_stream is untouched b =
-      subst (λ (u : AttemptValue). HasBegun (asking_state framing job y u end later)) (sym (is ∙ ap (λ (r : StreamValue). attempt_value s.exchange (Some r) false) is_stream))
-      (fresh_begins end off next same known follows touched untouched b)
+  begun_connects end backend off next same known follows touched is_stream is untouched b =
+      subst (λ (u : AttemptValue). HasBegun (asking_state framing job y u end later)) (sym (is ∙ ap (λ (r : StreamValue). attempt_value s.exchange (Some (backend_value r backend.reads backend.writes)) false) is_stream))
+      (fresh_begins backend.reads backend.writes end off next same known follows touched untouched b)
 
 -- the stream before is noted
-pub noted_untouched : (items later : List (StreamValue × Bool)) (before : StreamValue) (s : AttemptValue) → later ≡ items ++ (before, true) ∷ [] → HadStream before s
-    → IsUntouchedAttempt s → All IsUntouched (map (λ (u : StreamValue × Bool). u.0) items) → All IsUntouched (map (λ (u : StreamValue × Bool). u.0) later)
+pub noted_untouched : (items later : List (BackendValue × Bool)) (before : BackendValue) (s : AttemptValue) → later ≡ items ++ (before, true) ∷ [] → HadStream before.stream s
+    → IsUntouchedAttempt s → All IsUntouched (map (λ (u : BackendValue × Bool). u.0.stream) items) → All IsUntouched (map (λ (u : BackendValue × Bool). u.0.stream) later)
 noted_untouched items later before s is had touched all =
     subst (λ (l : List StreamValue). All IsUntouched l)
-    (sym (ap (λ (l : List (StreamValue × Bool)). map (λ (u : StreamValue × Bool). u.0) l) is ∙ map-append (λ (u : StreamValue × Bool). u.0) items ((before, true) ∷ [])))
-    (All-push IsUntouched (map (λ (u : StreamValue × Bool). u.0) items) before all (had.0 ∙ touched.1, had.1 ∙ touched.0))
+    (sym (ap (λ (l : List (BackendValue × Bool)). map (λ (u : BackendValue × Bool). u.0.stream) l) is ∙ map-append (λ (u : BackendValue × Bool). u.0.stream) items ((before, true) ∷ [])))
+    (All-push IsUntouched (map (λ (u : BackendValue × Bool). u.0.stream) items) before.stream all (had.0 ∙ touched.1, had.1 ∙ touched.0))
 
 -- ---- what only grows
 
-pub asks_grown : (framing : Framing) (job : HandedJob) (a : AddressesValue) (x y : AttemptValue) (end : Option ExchangeEnd) (items : List (StreamValue × Bool)) → HasGrown x y
-    → AsksOn (asked_for (asking_state framing job a x end items)) (asked_for (asking_state framing job a y end items))
-asks_grown framing job a x y end items g = record { job = refl; found = prefix-refl a.found; streams = inl record { tried = refl; peer = inr g.2; given = g.0; got = g.1 } }
+pub asks_grown : (framing : Framing) (job : HandedJob) (a : AddressesValue) (x y : AttemptValue) (end now : Option ExchangeEnd) (items : List (BackendValue × Bool)) → HasGrown x y
+    → AsksOn (asked_for (asking_state framing job a x end items)) (asked_for (asking_state framing job a y now items))
+asks_grown framing job a x y end now items g = record { job = refl; found = prefix-refl a.found; streams = inl record { tried = refl; peer = inr g.2; given = g.0; got = g.1 } }
 
-pub asks_found : (framing : Framing) (job : HandedJob) (a b : AddressesValue) (x : AttemptValue) (end : Option ExchangeEnd) (items : List (StreamValue × Bool)) → IsPrefixOf a.found b.found
+pub asks_found : (framing : Framing) (job : HandedJob) (a b : AddressesValue) (x : AttemptValue) (end : Option ExchangeEnd) (items : List (BackendValue × Bool)) → IsPrefixOf a.found b.found
     → AsksOn (asked_for (asking_state framing job a x end items)) (asked_for (asking_state framing job b x end items))
 asks_found framing job a b x end items more = record {
   job = refl;
@@ -287,20 +316,20 @@ asks_found framing job a b x end items more = record {
   streams = inl record { tried = refl; peer = inr refl; given = prefix-refl x.given; got = prefix-refl x.got };
 }
 
-module _ (framing : Framing) (job : HandedJob) (a b : AddressesValue) (x y : AttemptValue) (end : Option ExchangeEnd) (items : List (StreamValue × Bool)) where
+module _ (framing : Framing) (job : HandedJob) (a b : AddressesValue) (x y : AttemptValue) (end : Option ExchangeEnd) (items : List (BackendValue × Bool)) where
   -- its stream was given up
-  pub asks_again : (later : List (StreamValue × Bool)) (before : StreamValue) → b.found ≡ a.found → later ≡ items ++ (before, true) ∷ [] → HadStream before x
+  pub asks_again : (later : List (BackendValue × Bool)) (before : BackendValue) → b.found ≡ a.found → later ≡ items ++ (before, true) ∷ [] → HadStream before.stream x
       → AsksOn (asked_for (asking_state framing job a x end items)) (asked_for (asking_state framing job b y end later))
   asks_again later before same noted had = record {
     job = refl;
     found = begins_is a.found b.found same;
     streams = inr record {
-      last = before;
+      last = before.stream;
       others = [];
-      tried_are = ap (λ (l : List (StreamValue × Bool)). map (λ (u : StreamValue × Bool). u.0) l) noted ∙ map-append (λ (u : StreamValue × Bool). u.0) items ((before, true) ∷ []);
+      tried_are = ap (λ (l : List (BackendValue × Bool)). map (λ (u : BackendValue × Bool). u.0.stream) l) noted ∙ map-append (λ (u : BackendValue × Bool). u.0.stream) items ((before, true) ∷ []);
       peer = inr had.2;
-      given = begins_is x.given before.given had.0;
-      got = begins_is x.got before.got had.1;
+      given = begins_is x.given before.stream.given had.0;
+      got = begins_is x.got before.stream.got had.1;
     };
   }
 

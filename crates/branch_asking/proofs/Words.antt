@@ -9,4 +9,4 @@ pub use Rattle.gateway_theory.specs.Task.{HandedJob}
 pub use Rattle.loop_model.specs.Asking.{AreAddressesOf, StreamValue, BeginsRequest, IsUntouched, peers_of, request_of, stream_value}
 pub use Rattle.loop_model.specs.Whole.{AsksOn}
 pub use Rattle.branch_asking.specs.Addresses.{AddressesValue, AreOf, addresses_value, next_of, once_found, once_spelt, HasParsed}
-pub use Rattle.branch_asking.specs.Asking.{AskingState, asked_for, Asks, HasGrown, AttemptValue, HadStream, HasBegun, HasEnded, IsUnsent, IsUntouchedAttempt, asking_state, attempt_value}
+pub use Rattle.branch_asking.specs.Asking.{AskingState, asked_for, Asks, HasGrown, AttemptValue, HadStream, HasBegun, HasEnded, IsUnsent, IsUntouchedAttempt, asking_state, attempt_value, BackendValue, backend_value}

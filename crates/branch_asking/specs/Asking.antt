@@ -1,5 +1,5 @@
 -- A job that is asked for: what was written and read for it, and how that ends.
-use Rattle.std.specs.Prelude.{◌≡◌, ℕ, Bool, true, false, All, List, [], ◌∷◌, ◌++◌, map, Option, Some, None, option_map}
+use Rattle.std.specs.Prelude.{◌≡◌, ℕ, Bool, true, false, ◌&&◌, ◌||◌, All, List, [], ◌∷◌, ◌++◌, map, Option, Some, None, option_map, is_some}
 use Rattle.std.specs.Option.{option_map_or}
 use Rattle.std.specs.declared.net.socket_addr.SocketAddr.{SocketAddr}
 use Rattle.http_pieces.specs.declared.framing.Framing.{Framing}
@@ -11,11 +11,22 @@ use Rattle.branch_exchange.specs.declared.exchange_end.Loss.{Loss}
 use Rattle.gateway_model.specs.Queue.{IsPrefixOf}
 use Rattle.gateway_theory.specs.Task.{HandedJob}
 use Rattle.loop_model.specs.Asking.{AskingValue, IsUntouched, StreamValue, peers_of, request_of, stream_value}
+use Rattle.wires.specs.Wires.{is_to_read}
+use Rattle.wires.specs.declared.ready.Ready.{Ready}
 use Rattle.branch_asking.specs.Addresses.{AddressesValue, AreOf, once_found}
 use Rattle.branch_asking.specs.declared.attempt.Step.{Step}
 use Rattle.branch_asking.specs.declared.attempt.Step.TheVariants.{Waits, More, Refused, Ended}
 
 -- ---- an exchange over a stream
+
+-- a stream, and by all that was reported of it and answered: whether a read may bring something, and whether a write may be taken
+pub record BackendValue : Type 0 where
+  pub stream : StreamValue
+  pub reads : Bool
+  pub writes : Bool
+
+abbrev pub backend_value : StreamValue → Bool → Bool → BackendValue
+backend_value stream reads writes = record { stream = stream; reads = reads; writes = writes }
 
 -- what is left to be written of its request and the reader of its reply, and all that was read from its stream and written to it; nothing,
 -- while it has none
@@ -27,15 +38,20 @@ pub record AttemptValue : Type 0 where
   pub peer : Option SocketAddr
   pub ended : Bool
   pub connected : Bool
+  -- whether a read of it may bring something, and whether a write may be taken
+  pub reads : Bool
+  pub writes : Bool
 
-abbrev pub attempt_value : ExchangeValue → Option StreamValue → Bool → AttemptValue
-attempt_value exchange stream connected = record {
+abbrev pub attempt_value : ExchangeValue → Option BackendValue → Bool → AttemptValue
+attempt_value exchange backend connected = record {
   exchange = exchange;
-  given = option_map_or (λ (s : StreamValue). s.given) stream [];
-  got = option_map_or (λ (s : StreamValue). s.got) stream [];
-  peer = option_map (λ (s : StreamValue). s.peer) stream;
-  ended = option_map_or (λ (s : StreamValue). s.ended) stream false;
+  given = option_map_or (λ (b : BackendValue). b.stream.given) backend [];
+  got = option_map_or (λ (b : BackendValue). b.stream.got) backend [];
+  peer = option_map (λ (b : BackendValue). b.stream.peer) backend;
+  ended = option_map_or (λ (b : BackendValue). b.stream.ended) backend false;
   connected = connected;
+  reads = option_map_or (λ (b : BackendValue). b.reads) backend false;
+  writes = option_map_or (λ (b : BackendValue). b.writes) backend false;
 }
 
 -- this request is being written, or its reply, whose body may be framed so, is being read and is not whole yet; and no read found the end
@@ -51,6 +67,13 @@ pub record HasEnded (framing : Framing) (request : List ℕ) (end : ExchangeEnd)
   pub prefix : IsPrefixOf x.got request
   pub whole : (reply : HttpReply) → end ≡ ends.Reply reply → (x.got ≡ request) × BeginsWithReply framing x.given reply
   pub unanswered : (loss : Loss) → end ≡ ends.Lost loss → x.got ≡ request → HasNoReply framing x.given
+
+-- the report became known of its stream, if it has one
+abbrev pub noted_attempt : Ready → AttemptValue → AttemptValue
+noted_attempt ready x = record x {
+  reads = is_some x.peer && (x.reads || is_to_read ready);
+  writes = is_some x.peer && (x.writes || ready.writable);
+}
 
 -- nothing was written or read
 abbrev pub IsUntouchedAttempt : AttemptValue → Type 0
@@ -90,14 +113,14 @@ pub record AskingState : Type 0 where
   pub end : Option ExchangeEnd
   pub tried : List StreamValue
 
-abbrev pub asking_state : Framing → HandedJob → AddressesValue → AttemptValue → Option ExchangeEnd → List (StreamValue × Bool) → AskingState
+abbrev pub asking_state : Framing → HandedJob → AddressesValue → AttemptValue → Option ExchangeEnd → List (BackendValue × Bool) → AskingState
 asking_state framing job addresses attempt end tried = record {
   framing = framing;
   job = job;
   addresses = addresses;
   attempt = attempt;
   end = end;
-  tried = map (λ (t : StreamValue × Bool). t.0) tried;
+  tried = map (λ (t : BackendValue × Bool). t.0.stream) tried;
 }
 
 -- what the loop shows of it
@@ -109,6 +132,9 @@ asked_for x = record {
   peer = x.attempt.peer;
   given = x.attempt.given;
   got = x.attempt.got;
+  reads = x.attempt.reads;
+  writes = x.attempt.writes;
+  over = is_some x.end;
 }
 
 -- the stream that it goes over, if there is one

@@ -1,11 +1,12 @@
-ghost use Rattle.std.specs.Prelude.{◌≡◌, ◌↔◌, ◌⊎◌, [], None, Some, true, is_some, IfOk, IfSome, IsFalse, MatchOption, option_and_then};
+ghost use Rattle.std.specs.Prelude.{◌≡◌, ◌↔◌, ◌⊎◌, [], None, Some, false, true, is_some, IfOk, IfSome, IsFalse, MatchOption, option_and_then};
 ghost use Rattle.std.specs.Borrow.{sem};
 ghost use Rattle.std.specs.Option.{option_map_or};
 ghost use Rattle.branch_causes.specs.Causes.{cause_of_end, status_of_end};
 ghost use Rattle.branch_causes.specs.declared.cause.Cause.TheVariants.{NotWanted};
 ghost use Rattle.branch_exchange.specs.Outcomes.{asked_of, outcome_of_asked};
 ghost use Rattle.branch_asking.specs.Addresses.{HasParsed, next_of};
-ghost use Rattle.branch_asking.specs.Asking.{Finds, NotesStream, asked_for};
+ghost use Rattle.branch_asking.specs.Asking.{Finds, NotesStream, asked_for, noted_attempt};
+ghost use Rattle.branch_asking.specs.Rests.{rests_asked};
 ghost use Rattle.loop_model.specs.Asking.{BeginsRequest, IsFair, ended_value, request_of};
 ghost use Rattle.loop_model.specs.Whole.{AsksOn};
 
@@ -143,7 +144,8 @@ impl<W: Wire> Asking<W> {
 
     /// Something became possible at its stream; whether that may be told of another's, too, that had the token before.
     pub fn report(&mut self, ready: Ready, is_shared: bool)
-        ensures { self.new ≡ self.old }
+        ensures noted { self.new ≡ record self.old { attempt = noted_attempt ready self.old.attempt } }
+        ensures on { AsksOn (asked_for self.old) (asked_for self.new) }
     {
         self.errand.note_ready(ready, is_shared);
         self.attempt.report(ready);
@@ -157,12 +159,21 @@ impl<W: Wire> Asking<W> {
         self.attempt.watch(net, token)
     }
 
-    /// What was written for it begins its request, and nothing was written to a stream that was given up. It does
-    /// nothing.
+    /// What was written for it begins its request, and nothing was written to a stream that was given up, or to one that
+    /// has not taken a byte. It does nothing.
     pub fn begun_law(&self)
-        ensures { BeginsRequest (asked_for self.now) }
+        ensures begun { BeginsRequest (asked_for self.now) }
+        ensures untouched { self.now.attempt.connected ≡ false → self.now.attempt.got ≡ [] }
     {
-        let _ = &self.job;
+        self.attempt.unsent_law();
+    }
+
+    /// Whether it has not ended, and nothing is left to be done over its stream: nothing may be read, or it has not
+    /// taken a byte; and where its request was not written whole no write is taken.
+    pub fn rests(&self) -> bool
+        ensures { result ≡ rests_asked self.now }
+    {
+        self.end.is_none() && self.attempt.rests()
     }
 
     /// Whether there is an address that is to be tried.

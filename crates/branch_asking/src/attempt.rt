@@ -1,6 +1,7 @@
-ghost use Rattle.std.specs.Prelude.{◌≡◌, None, Some, IfSome, IsFalse, false};
+ghost use Rattle.std.specs.Prelude.{◌≡◌, [], None, Some, IfSome, IsFalse, false};
 ghost use Rattle.loop_model.specs.Asking.{IsUntouched};
-ghost use Rattle.branch_asking.specs.Asking.{Asks, HadStream, HasGrown, IsUnsent, IsUntouchedAttempt, Steps, attempt_value};
+ghost use Rattle.branch_asking.specs.Asking.{Asks, HadStream, HasGrown, IsUnsent, IsUntouchedAttempt, Steps, attempt_value, noted_attempt};
+ghost use Rattle.branch_asking.specs.Rests.{rests_over};
 
 use crate::backend::Backend;
 use crate::network::Network;
@@ -78,7 +79,7 @@ impl<W: Wire> Attempt<W> {
 
     /// Something became possible at its stream.
     pub(crate) fn report(&mut self, ready: Ready)
-        ensures { self.new ≡ self.old }
+        ensures { self.new ≡ noted_attempt ready self.old }
     {
         if let Some(stream) = &mut self.stream {
             stream.report(ready);
@@ -98,11 +99,25 @@ impl<W: Wire> Attempt<W> {
         self.stream.is_some() && !self.is_connected
     }
 
-    /// While it has no stream, nothing was written. It does nothing.
+    /// While it has no stream, nothing was written; and nothing was while its stream has not taken a byte. It does
+    /// nothing.
     pub(crate) fn unsent_law(&self)
-        ensures { IsUnsent self.now }
+        ensures unsent { IsUnsent self.now }
+        ensures untouched { self.now.connected ≡ false → self.now.got ≡ [] }
     {
         let _ = &self.stream;
+    }
+
+    /// Whether nothing is left to be done over its stream: nothing may be read, or it has not taken a byte; and where
+    /// some of the request is left no write is taken.
+    pub(crate) fn rests(&self) -> bool
+        ensures { result ≡ rests_over self.now }
+    {
+        let Some(stream) = &self.stream else {
+            return true;
+        };
+        (!stream.may_read() || !self.is_connected)
+            && (self.exchange.is_sent() || !stream.may_write())
     }
 
     /// How many bytes of its request are left to be written.
@@ -203,9 +218,9 @@ impl<W: Wire + Drop> Attempt<W> {
     /// It goes over this stream from now on, of which nothing was read or written. Answers the one before, if there
     /// was one.
     pub(crate) fn connect(&mut self, stream: Backend<W>) -> Option<Backend<W>>
-        requires { IsUntouched stream }
+        requires { IsUntouched stream.stream }
         ensures fresh { self.new ≡ attempt_value self.old.exchange (Some stream) false }
-        ensures before { IfSome result (λ before. HadStream before self.old) }
+        ensures before { IfSome result (λ before. HadStream before.stream self.old) }
         ensures first { result ≡ None → self.old.peer ≡ None }
         ensures untouched { result ≡ None → IsUntouchedAttempt self.old }
     {

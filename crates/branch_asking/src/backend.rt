@@ -1,6 +1,7 @@
-ghost use Rattle.std.specs.Prelude.{◌≡◌, [], false};
+ghost use Rattle.std.specs.Prelude.{◌≡◌, ◌||◌, [], false};
+ghost use Rattle.branch_asking.specs.Asking.{backend_value};
 ghost use Rattle.loop_model.specs.Asking.{stream_value};
-ghost use Rattle.wires.specs.Wires.{Ends, Gives, Takes};
+ghost use Rattle.wires.specs.Wires.{Ends, Gives, Takes, is_to_read};
 
 use crate::network::Network;
 use std::marker::Model;
@@ -8,7 +9,7 @@ use std::net::SocketAddr;
 use wires::{Got, Outbox, PIECE, Ready, Sent, Wire};
 
 /// A stream to a backend. Contracts see the address that it was connected to, what was read from it and written to it,
-/// and whether a read found its end, or failed.
+/// whether a read found its end, or failed, and what may be done.
 #[derive(Drop)]
 pub(crate) struct Backend<W: Wire> {
     wire: W,
@@ -16,11 +17,12 @@ pub(crate) struct Backend<W: Wire> {
 }
 
 impl<W: Wire> Model for Backend<W> {
-    ghost use Rattle.loop_model.specs.Asking.{StreamValue, stream_value};
+    ghost use Rattle.loop_model.specs.Asking.{stream_value};
+    ghost use Rattle.branch_asking.specs.Asking.{BackendValue, backend_value};
 
-    ghost Value = { StreamValue };
+    ghost Value = { BackendValue };
 
-    ghost view = { λ b. stream_value b.peer (W.given b.wire) (W.got b.wire) (W.ended b.wire) };
+    ghost view = { λ b. backend_value (stream_value b.peer (W.given b.wire) (W.got b.wire) (W.ended b.wire)) (W.reads b.wire) (W.writes b.wire) };
 }
 
 impl<W: Wire> Backend<W> {
@@ -30,7 +32,7 @@ impl<W: Wire> Backend<W> {
         address: SocketAddr,
         length: usize,
     ) -> Backend<W>
-        ensures fresh { result ≡ stream_value address [] [] false }
+        ensures fresh { result.stream ≡ stream_value address [] [] false }
         ensures told { N.told net.new ≡ N.told net.old }
     {
         Backend {
@@ -49,18 +51,22 @@ impl<W: Wire> Backend<W> {
 
     /// Something became possible.
     pub(crate) fn report(&mut self, ready: Ready)
-        ensures { self.new ≡ self.old }
+        ensures { self.new ≡ backend_value self.old.stream (self.old.reads || is_to_read ready) (self.old.writes || ready.writable) }
     {
         self.wire.report(ready);
     }
 
     /// Whether a read may bring something.
-    pub(crate) fn may_read(&self) -> bool {
+    pub(crate) fn may_read(&self) -> bool
+        ensures { result ≡ self.now.reads }
+    {
         self.wire.may_read()
     }
 
     /// Whether a write may be taken.
-    pub(crate) fn may_write(&self) -> bool {
+    pub(crate) fn may_write(&self) -> bool
+        ensures { result ≡ self.now.writes }
+    {
         self.wire.may_write()
     }
 
@@ -71,17 +77,17 @@ impl<W: Wire> Backend<W> {
 
     /// Reads once, into the first places of the piece.
     pub(crate) fn read(&mut self, piece: &mut [u8; PIECE]) -> Got
-        ensures given { Gives self.old.given self.new.given piece.new result }
-        ensures ended { Ends self.old.ended self.new.ended result }
-        ensures rest { self.new ≡ stream_value self.old.peer self.new.given self.old.got self.new.ended }
+        ensures given { Gives self.old.stream.given self.new.stream.given piece.new result }
+        ensures ended { Ends self.old.stream.ended self.new.stream.ended result }
+        ensures rest { self.new.stream ≡ stream_value self.old.stream.peer self.new.stream.given self.old.stream.got self.new.stream.ended }
     {
         self.wire.read(piece)
     }
 
     /// Writes once of what waits, from its first byte on.
     pub(crate) fn write(&mut self, outbox: &Outbox) -> Sent
-        ensures got { Takes self.old.got self.new.got outbox.now result }
-        ensures rest { self.new ≡ stream_value self.old.peer self.old.given self.new.got self.old.ended }
+        ensures got { Takes self.old.stream.got self.new.stream.got outbox.now result }
+        ensures rest { self.new.stream ≡ stream_value self.old.stream.peer self.old.stream.given self.new.stream.got self.old.stream.ended }
     {
         self.wire.write(outbox)
     }

@@ -1,5 +1,5 @@
 -- What each step makes of the jobs that are asked for, and of those that ended.
-use Rattle.gateway_loop.proofs.Words.{◌≡◌, ◌≢◌, ◌⊎◌, ℕ, zero, suc, ◌+◌, Bool, false, cond, List, [], ◌∷◌, ◌++◌, All, map, Option, None, Some, refl, sym, ap, ◌∙◌, subst, arith, append_assoc, inl, inr, ⊎_elim, count_by, sum_by, option_map, slice_index_or, option_map_or, cases_eq, map-append, All-push, sum_by-append, sum_by-cons, Outcome, JobValue, IsPrefixOf, HandedJob, Slab, Updates, AskingValue, BeginsRequest, EndedValue, IsFair, StreamValue, ended_value, LoopValue, HasTicked, AsksFairly, AsksOn, ContinuesLoop, GivesUpStream, HasEndedSince, KeepsStream, WholeLoop, asked_at, count_asked, AskingState, asked_for, HandsNothing, Onward, Goes, AreFramed, whole_loop, Framing, SocketAddr, prefix-refl, prefix-trans}
+use Rattle.gateway_loop.proofs.Words.{◌≡◌, ◌≢◌, ◌⊎◌, ℕ, zero, suc, ◌+◌, Bool, false, cond, List, [], ◌∷◌, ◌++◌, All, map, Option, None, Some, refl, sym, ap, ◌∙◌, subst, arith, append_assoc, inl, inr, ⊎_elim, count_by, sum_by, option_map, slice_index_or, option_map_or, cases_eq, map-append, All-push, sum_by-append, sum_by-cons, Outcome, JobValue, IsPrefixOf, HandedJob, Slab, Updates, AskingValue, BeginsRequest, EndedValue, IsFair, StreamValue, ended_value, LoopValue, HasTicked, AsksFairly, AsksOn, ContinuesLoop, GivesUpStream, HasEndedSince, KeepsStream, WholeLoop, asked_at, count_asked, AskingState, asked_for, HandsNothing, Onward, Goes, AreFramed, IsFramed, whole_loop, Framing, SocketAddr, prefix-refl, prefix-trans}
 use Rattle.std.proofs.lemmas.Bool.Decides.{nat_tests}
 use Rattle.std.proofs.lemmas.List.{append-nil}
 use Rattle.gateway_loop.proofs.GrowLemmas as grow
@@ -102,10 +102,10 @@ goes_on v w p = p.on v (continues_same v)
 
 pub ruleset going = (goes_same, goes_then, goes_on)
 
-abbrev show_slot : Option AskingState → Option AskingValue
+abbrev pub show_slot : Option AskingState → Option AskingValue
 show_slot o = option_map asked_for o
 
-shown_at : (slots : List (Option AskingState)) (i : ℕ) → asked_at i (map (λ (o : Option AskingState). show_slot o) slots) ≡ show_slot (slice_index_or slots i None)
+pub shown_at : (slots : List (Option AskingState)) (i : ℕ) → asked_at i (map (λ (o : Option AskingState). show_slot o) slots) ≡ show_slot (slice_index_or slots i None)
 shown_at [] i = refl
 shown_at (o ∷ rest) zero = refl
 shown_at (o ∷ rest) (suc i) = shown_at rest i
@@ -246,7 +246,7 @@ begun_by y begun x is = subst (λ (t : AskingValue). BeginsRequest t) (some_aske
 
 -- .. and the reply to each may be framed so
 framed_put : (framing : Framing) (old new : List (Option AskingState)) (i : ℕ) (o : Option AskingState) → Put old new i o
-    → ((x : AskingState) → o ≡ Some x → x.framing ≡ framing) → AreFramed framing old → AreFramed framing new
+    → ((x : AskingState) → o ≡ Some x → IsFramed framing x) → AreFramed framing old → AreFramed framing new
 framed_put framing old new i o put own before j x is =
     ⊎_elim
     (λ (same : j ≡ i). own x (sym put.here ∙ ap (λ (n : ℕ). slice_index_or new n None) (sym same) ∙ is))
@@ -259,8 +259,12 @@ some_state a b e = cc
 none_state : (b : AskingState) → None ≡ Some b → ⊥
 none_state b e = cc
 
-framed_by : (framing : Framing) (y : AskingState) → y.framing ≡ framing → (x : AskingState) → Some y ≡ Some x → x.framing ≡ framing
-framed_by framing y framed x is = subst (λ (t : AskingState). t.framing ≡ framing) (some_state y x is) framed
+-- nothing was written to a stream of it that has not taken a byte
+abbrev pub HasUntouched : AskingState → Type 0
+HasUntouched y = y.attempt.connected ≡ false → y.attempt.got ≡ []
+
+framed_by : (framing : Framing) (y : AskingState) → y.framing ≡ framing → HasUntouched y → (x : AskingState) → Some y ≡ Some x → IsFramed framing x
+framed_by framing y framed untouched x is = subst (λ (t : AskingState). IsFramed framing t) (some_state y x is) ((framed, untouched))
 
 -- what holds of a loop with these clients, jobs and ends
 abbrev pub Keeps : Framing → LoopValue → List (Option AskingState) → List (AskingState × Option Outcome) → Type 0
@@ -268,9 +272,9 @@ Keeps framing v asking ended = AsksFairly (whole_loop framing v asking ended) ×
 
 -- one of them went on with its job
 pub keeps_put : (framing : Framing) (v : LoopValue) (old new : List (Option AskingState)) (ended : List (AskingState × Option Outcome)) (i : ℕ) (x y : AskingState)
-    → slice_index_or old i None ≡ Some x → y.job ≡ x.job → y.framing ≡ x.framing → Put old new i (Some y) → BeginsRequest (asked_for y)
+    → slice_index_or old i None ≡ Some x → y.job ≡ x.job → y.framing ≡ x.framing → Put old new i (Some y) → BeginsRequest (asked_for y) → HasUntouched y
     → Keeps framing v old ended → Keeps framing v new ended
-keeps_put framing v old new ended i x y was job framed put begun k = (
+keeps_put framing v old new ended i x y was job framed put begun untouched k = (
   record {
     results = k.0.results;
     fair = k.0.fair;
@@ -281,7 +285,7 @@ keeps_put framing v old new ended i x y was job framed put begun k = (
         let is : sum_by (one_asked p) new ≡ sum_by (one_asked p) old = omega (arith, count, same) in
         k.0.jobs p ∙ ap (λ n. count_by (λ (e : EndedValue). p e.asking.job) (whole_loop framing v old ended).ended + n) (shown_count p old ∙ sym is ∙ sym (shown_count p new));
   },
-  framed_put framing old new i (Some y) put (framed_by framing y (framed ∙ k.1 i x was)) k.1,
+  framed_put framing old new i (Some y) put (framed_by framing y (framed ∙ (k.1 i x was).0) untouched) k.1,
 )
 
 -- one of them was taken out, went on with its job, and was put back
@@ -291,8 +295,8 @@ module _ (framing : Framing) (v : LoopValue) (ended : List (AskingState × Optio
   goes_back out next is back was on = goes_put s.slots u.slots i framing v ended x y was (put_back s t u i key y out next is back) on
 
   pub keeps_back : Updates s t i None → t.vacant_key ≡ i → key ≡ t.vacant_key → Updates t u key (Some y) → slice_index_or s.slots i None ≡ Some x
-      → y.job ≡ x.job → y.framing ≡ x.framing → BeginsRequest (asked_for y) → Keeps framing v s.slots ended → Keeps framing v u.slots ended
-  keeps_back out next is back was job framed begun a = keeps_put framing v s.slots u.slots ended i x y was job framed (put_back s t u i key y out next is back) begun a
+      → y.job ≡ x.job → y.framing ≡ x.framing → BeginsRequest (asked_for y) → HasUntouched y → Keeps framing v s.slots ended → Keeps framing v u.slots ended
+  keeps_back out next is back was job framed begun untouched a = keeps_put framing v s.slots u.slots ended i x y was job framed (put_back s t u i key y out next is back) begun untouched a
 
 -- where no job waits, nothing was taken
 pub takes_none : (framing : Framing) (v w : LoopValue) (old new : List (Option AskingState)) (ended : List (AskingState × Option Outcome))
@@ -311,8 +315,8 @@ takes_none framing v w old new ended same more slots k =
 -- a job was taken, and is asked for
 pub takes_job : (framing : Framing) (v w : LoopValue) (old new : List (Option AskingState)) (ended : List (AskingState × Option Outcome)) (i : ℕ) (y : AskingState) (j : JobValue)
     → w.results ≡ v.results → w.handed ≡ v.handed ++ j ∷ [] → y.job.job ≡ j → y.framing ≡ framing → slice_index_or old i None ≡ None → Put old new i (Some y)
-    → BeginsRequest (asked_for y) → Keeps framing v old ended → Keeps framing w new ended
-takes_job framing v w old new ended i y j same more job framed free put begun k = (
+    → BeginsRequest (asked_for y) → HasUntouched y → Keeps framing v old ended → Keeps framing w new ended
+takes_job framing v w old new ended i y j same more job framed free put begun untouched k = (
   record {
     results = same ∙ k.0.results;
     fair = k.0.fair;
@@ -327,7 +331,7 @@ takes_job framing v w old new ended i y j same more job framed free put begun k 
         let later = shown_count p new in
         omega (arith, count, own, handed, one, before, shown, later);
   },
-  framed_put framing old new i (Some y) put (framed_by framing y framed) k.1,
+  framed_put framing old new i (Some y) put (framed_by framing y framed untouched) k.1,
 )
 
 -- one of them ended, and its result was handed in
@@ -346,7 +350,7 @@ ends_one framing v w old new ended ended' i x y o j results same was job framed 
             ∙ ap (map pair) (sym shown);
         fair =
             subst (All (IsFair framing)) (sym shown)
-            (All-push (IsFair framing) (map show ended) (show (y, o)) k.0.fair (subst (λ (f : Framing). IsFair f (show (y, o))) (framed ∙ k.1 i x was) fair));
+            (All-push (IsFair framing) (map show ended) (show (y, o)) k.0.fair (subst (λ (f : Framing). IsFair f (show (y, o))) (framed ∙ (k.1 i x was).0) fair));
         begun = begun_put old new i None put (λ (z : AskingValue) is. absurd (none_asked z is)) k.0.begun;
         jobs = λ p.
             let of_ended : EndedValue → Bool = λ (e : EndedValue). p e.asking.job in

@@ -123,15 +123,18 @@ module _ (v w : LoopValue) (plans : w.core.plans ≡ v.core.plans) (told : w.tol
 
 -- ---- a client's own
 
-pub grows_by : (conn : ℕ) (p q e f : Bool) (given given' got got' waiting left more sent : List ℕ) → given' ≡ given ++ more → got' ≡ got ++ sent
-    → Grows (client_value conn p given got e waiting) (client_value conn q given' got' f left)
+pub grows_by : {reads writes reads' writes' : Bool} {until : Option ℕ} → (conn : ℕ) (p q e f : Bool) (given given' got got' waiting left more sent : List ℕ) → given' ≡ given ++ more → got' ≡ got ++ sent
+    → Grows (client_value conn p given got e waiting reads writes until) (client_value conn q given' got' f left reads' writes' until)
 grows_by conn p q e f given given' got got' waiting left more sent reads writes = record { conn = refl; given = (more, reads); got = (sent, writes) }
 
 pub no_more : (xs ys : List ℕ) → ys ≡ xs → ys ≡ xs ++ []
 no_more xs ys same = same ∙ sym (append-nil xs)
 
-pub grows_lingering : (x : ClientValue) → Grows x (lingering x)
-grows_lingering x = record { conn = refl; given = prefix-refl x.given; got = prefix-refl x.got }
+pub grows_lingering : (x : ClientValue) (until : ℕ) → Grows x (lingering until x)
+grows_lingering x until = record { conn = refl; given = prefix-refl x.given; got = prefix-refl x.got }
+
+pub grows_moved : (x : ClientValue) (reads writes : Bool) → Grows x (record x { reads = reads; writes = writes })
+grows_moved x reads writes = record { conn = refl; given = prefix-refl x.given; got = prefix-refl x.got }
 
 -- ---- what logs tell
 

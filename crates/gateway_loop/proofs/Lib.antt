@@ -8,3 +8,4 @@ pub mod LoopLemmas
 pub mod ServingLemmas
 pub mod GrowLemmas
 pub mod AskLemmas
+pub mod RestLemmas

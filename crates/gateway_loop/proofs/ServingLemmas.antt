@@ -26,15 +26,15 @@ module _ (unknown : Outcome) (laws : LoopLaws) (v w : GatewayValue) (moment : �
 
   module _ (plans_are : w.plans ≡ v.plans) where
     -- the connection of a client closes, and it lingers
-    pub serving_leaves : (i : ℕ) (x : ClientValue) → at i l.clients ≡ Some x → ((h : History) → Served v h → Served w (after_event (Closing x.conn) h))
-        → Put l.clients m.clients i (Some (lingering x)) → m.gone ≡ l.gone → SameRest l m → IsServing unknown v moment l → IsServing unknown w moment m
-    serving_leaves i x its takes puts gone rest s =
+    pub serving_leaves : (i : ℕ) (x : ClientValue) (until : ℕ) → at i l.clients ≡ Some x → ((h : History) → Served v h → Served w (after_event (Closing x.conn) h))
+        → Put l.clients m.clients i (Some (lingering until x)) → m.gone ≡ l.gone → SameRest l m → IsServing unknown v moment l → IsServing unknown w moment m
+    serving_leaves i x until its takes puts gone rest s =
         let h = s.history in
         let k = after_event (Closing x.conn) h in record {
           history = k;
           serves = takes h s.serves;
           held = subst (λ (ps : List PlanRecord). IsHeld unknown ps k moment m) (sym plans_are)
-              (held_steps unknown laws v.plans moment l m h k i x (lingering x) its refl (leaves laws v v.plans h x refl s.serves (s.held.fits i x its))
+              (held_steps unknown laws v.plans moment l m h k i x (lingering until x) its refl (leaves laws v v.plans h x until refl s.serves (s.held.fits i x its))
               (leads_event v.plans (λ c. c == x.conn) (Closing x.conn) h (λ c off. closing_elsewhere x.conn c off)) (quiet_event (Closing x.conn) h refl refl refl) refl puts gone rest s.held);
         }
 
@@ -52,20 +52,20 @@ module _ (unknown : Outcome) (laws : LoopLaws) (v w : GatewayValue) (moment : �
         }
 
     -- a client comes
-    pub serving_comes : (i c : ℕ) (given got : List ℕ) (ended : Bool) → c ≡ v.opened → given ≡ [] → got ≡ [] → ended ≡ false
+    pub serving_comes : (i c : ℕ) (given got : List ℕ) (ended reads writes : Bool) → c ≡ v.opened → given ≡ [] → got ≡ [] → ended ≡ false
         → ((h : History) → Served v h → Served w (after_opening h))
-        → at i l.clients ≡ None → Put l.clients m.clients i (Some (client_value c false given got ended [])) → m.gone ≡ l.gone → SameRest l m → IsServing unknown v moment l → IsServing unknown w moment m
-    serving_comes i c given got ended number none_given none_got on takes vacant puts gone rest s =
+        → at i l.clients ≡ None → Put l.clients m.clients i (Some (client_value c false given got ended [] reads writes None)) → m.gone ≡ l.gone → SameRest l m → IsServing unknown v moment l → IsServing unknown w moment m
+    serving_comes i c given got ended reads writes number none_given none_got on takes vacant puts gone rest s =
         let h = s.history in
         let k = after_opening h in
         let below = s.serves.conns.below in
         let c_is : c ≡ connections h.opened h.events = number ∙ sym s.serves.conns.count_is in
-        let y = client_value c false given got ended [] in record {
+        let y = client_value c false given got ended [] reads writes None in record {
           history = k;
           serves = takes h s.serves;
           held = subst (λ (ps : List PlanRecord). IsHeld unknown ps k moment m) (sym plans_are)
               (held_comes unknown laws v.plans moment l m h k i y
-              (subst (λ (n : ℕ). Fits v.plans k (client_value n false given got ended [])) (sym c_is) (born_fits laws w v.plans h below plans_are (takes h s.serves) given got ended none_given none_got on))
+              (subst (λ (n : ℕ). Fits v.plans k (client_value n false given got ended [] reads writes None)) (sym c_is) (born_fits laws w v.plans h below plans_are (takes h s.serves) given got ended none_given none_got on))
               c_is (fits_known v.plans h) (leads_opening h below v.plans nobodys) record { moments_are = refl; results_are = append-nil (results h.events); drains_are = refl; handed_are = refl }
               (born_count h below) vacant puts gone rest s.held);
         }
@@ -201,6 +201,7 @@ explained unknown laws v moment l same s =
       knows = λ occurred all. subst (λ (u : GatewayValue). IsKnown (shown u) h (occurrences occurred)) (sym same)
           (laws.known v h occurred s.serves (subst (λ (u : GatewayValue). Occurs u.plans h.opened h.events occurred) same all));
       clients = λ i x is. subst (λ (u : GatewayValue). IsExplainedClient u.plans h x) (sym same) (fits_explained laws v h x s.serves (s.held.fits i x is)).0;
+      taken = λ occurred all i x is off. ((s.held.fits i x is).stands off).written occurred (subst (λ (u : GatewayValue). Occurs u.plans h.opened h.events occurred) same all);
       still_open = λ i x is. (fits_explained laws v h x s.serves (s.held.fits i x is)).1;
       each = s.held.each;
       gone = All-weaker (λ (x : ClientValue). HasStood v.plans h x) (λ (x : ClientValue). IsExplainedClient l.core.plans h x)

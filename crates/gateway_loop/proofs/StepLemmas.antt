@@ -85,11 +85,29 @@ steps_then u v w x y z first second = record {
 pub fits_as_before : (x : ClientValue) → FitsOn x x
 fits_as_before x = record { conn = refl; fits = λ plans h f. f }
 
+-- what may be done at its stream counts for nothing
+pub fits_moved : (x : ClientValue) (reads writes : Bool) → FitsOn x (record x { reads = reads; writes = writes })
+fits_moved x reads writes = record {
+  conn = refl;
+  fits = λ plans h f. record {
+    stands = λ off.
+        let s = f.stands off in record { known = s.known; still_open = s.still_open; read = s.read; hangs_up = s.hangs_up; written = s.written };
+    stood = λ on. stood_as (f.stood on);
+  };
+}
+  where
+    stood_as : {plans : List PlanRecord} {h : History} → HasStood plans h x → HasStood plans h (record x { reads = reads; writes = writes })
+    stood_as s =
+        let e = s.explained in record {
+          explained = record { known = e.known; dropped = e.dropped; read = e.read; all_fed = e.all_fed; hangs_up = e.hangs_up; no_other = e.no_other; written = e.written };
+          closed = s.closed;
+        }
+
 -- nothing was read, and nothing written
-pub fits_still : (conn : ℕ) (lingers ended ended' : Bool) (given got waiting given' got' : List ℕ) → given' ≡ given → got' ≡ got → ended' ≡ ended
-    → FitsOn (client_value conn lingers given got ended waiting) (client_value conn lingers given' got' ended' waiting)
-fits_still conn lingers ended ended' given got waiting given' got' reads writes ends =
-    rw (reads, writes, ends) (fits_as_before (client_value conn lingers given got ended waiting))
+pub fits_still : {reads writes reads' writes' : Bool} {until : Option ℕ} → (conn : ℕ) (lingers ended ended' : Bool) (given got waiting given' got' : List ℕ) → given' ≡ given → got' ≡ got → ended' ≡ ended
+    → FitsOn (client_value conn lingers given got ended waiting reads writes until) (client_value conn lingers given' got' ended' waiting reads' writes' until)
+fits_still {reads} {writes} {reads'} {writes'} {until} conn lingers ended ended' given got waiting given' got' same_given same_got same_ended =
+    rw (same_given, same_got, same_ended) (fits_moved (client_value conn lingers given got ended waiting reads writes until) reads' writes')
 
 pub steps_same : (v : GatewayValue) (x : ClientValue) → MakesSteps v v x x
 steps_same v x = steps_fit v x x (fits_as_before x)
@@ -132,15 +150,15 @@ steps_reply v w x y reply same conn takes fits = record {
 -- ---- a client's own
 
 -- a piece was read, and fed
-pub fits_piece : (conn n : ℕ) (lingers ended ended' : Bool) (given got waiting given' got' piece : List ℕ) → lingers ≡ false
+pub fits_piece : {reads writes reads' writes' : Bool} {until : Option ℕ} → (conn n : ℕ) (lingers ended ended' : Bool) (given got waiting given' got' piece : List ℕ) → lingers ≡ false
     → given' ≡ given ++ take n piece → got' ≡ got → ended' ≡ ended → ended ≡ false → (plans : List PlanRecord) (h : History)
-    → Fits plans h (client_value conn lingers given got ended waiting) → Fits plans (after_event (Piece conn (take n piece)) h) (client_value conn lingers given' got' ended' waiting)
+    → Fits plans h (client_value conn lingers given got ended waiting reads writes until) → Fits plans (after_event (Piece conn (take n piece)) h) (client_value conn lingers given' got' ended' waiting reads' writes' until)
 fits_piece conn n lingers ended ended' given got waiting given' got' piece not_left more same_got same on plans h f = search arith
 
 -- of one that lingers a piece was read, and dropped
-pub fits_dropped : (conn n : ℕ) (lingers ended ended' : Bool) (given got waiting given' got' piece : List ℕ) → lingers ≡ true
+pub fits_dropped : {reads writes reads' writes' : Bool} {until : Option ℕ} → (conn n : ℕ) (lingers ended ended' : Bool) (given got waiting given' got' piece : List ℕ) → lingers ≡ true
     → given' ≡ given ++ take n piece → got' ≡ got → ended' ≡ ended
-    → FitsOn (client_value conn lingers given got ended waiting) (client_value conn lingers given' got' ended' waiting)
+    → FitsOn (client_value conn lingers given got ended waiting reads writes until) (client_value conn lingers given' got' ended' waiting reads' writes' until)
 fits_dropped conn n lingers ended ended' given got waiting given' got' piece left more same_got same = record {
   conn = refl;
   fits = λ plans h f. record {
@@ -164,8 +182,8 @@ fits_dropped conn n lingers ended ended' given got waiting given' got' piece lef
 }
 
 -- some of what waited was written
-pub fits_sent : (conn n : ℕ) (lingers ended ended' : Bool) (given got waiting given' got' : List ℕ) → given' ≡ given → got' ≡ got ++ take n waiting → ended' ≡ ended
-    → FitsOn (client_value conn lingers given got ended waiting) (client_value conn lingers given' got' ended' (drop n waiting))
+pub fits_sent : {reads writes reads' writes' : Bool} {until : Option ℕ} → (conn n : ℕ) (lingers ended ended' : Bool) (given got waiting given' got' : List ℕ) → given' ≡ given → got' ≡ got ++ take n waiting → ended' ≡ ended
+    → FitsOn (client_value conn lingers given got ended waiting reads writes until) (client_value conn lingers given' got' ended' (drop n waiting) reads' writes' until)
 fits_sent conn n lingers ended ended' given got waiting given' got' same_given more same =
     let whole : got' ++ drop n waiting ≡ got ++ waiting =
     ap (λ (t : List ℕ). t ++ drop n waiting) more ∙ append_assoc got (take n waiting) (drop n waiting) ∙ ap (λ (t : List ℕ). got ++ t) (take-append-drop n waiting) in record {
@@ -198,9 +216,9 @@ fits_sent conn n lingers ended ended' given got waiting given' got' same_given m
     }
 
 -- it hung up
-pub fits_hang_up : (conn : ℕ) (lingers ended ended' : Bool) (given got waiting given' got' : List ℕ) → lingers ≡ false
+pub fits_hang_up : {reads writes reads' writes' : Bool} {until : Option ℕ} → (conn : ℕ) (lingers ended ended' : Bool) (given got waiting given' got' : List ℕ) → lingers ≡ false
     → given' ≡ given → got' ≡ got → ended' ≡ true → (plans : List PlanRecord) (h : History)
-    → Fits plans h (client_value conn lingers given got ended waiting) → Fits plans (after_event (HangUp conn) h) (client_value conn false given' got' ended' waiting)
+    → Fits plans h (client_value conn lingers given got ended waiting reads writes until) → Fits plans (after_event (HangUp conn) h) (client_value conn lingers given' got' ended' waiting reads' writes' until)
 fits_hang_up conn lingers ended ended' given got waiting given' got' not_left same_given same_got now plans h f =
     let s = f.stands not_left in record {
       stands = λ off. record {
@@ -212,16 +230,16 @@ fits_hang_up conn lingers ended ended' given got waiting given' got' not_left sa
             let b = follows_event plans (HangUp conn) h later all in
             ap (λ (t : List ℕ). t ++ waiting) same_got ∙ s.written b.before b.occurred;
       };
-      stood = λ is. absurd (off_is_not false refl is);
+      stood = λ is. absurd (off_is_not lingers not_left is);
     }
 
 bytes_more : (entries : List ReplyEntry) (entry : ReplyEntry) → bytes_of (entries ++ entry ∷ []) ≡ bytes_of entries ++ (answer_of entry).bytes
 bytes_more entries entry = grind (arith, nat_tests, map-append, flat_map-append, append-nil)
 
 -- a reply was taken where nothing waited
-pub fits_reply : (conn : ℕ) (lingers ended : Bool) (given got waiting bytes : List ℕ) (reply : ReplyValue) → lingers ≡ false
+pub fits_reply : {reads writes : Bool} {until : Option ℕ} → (conn : ℕ) (lingers ended : Bool) (given got waiting bytes : List ℕ) (reply : ReplyValue) → lingers ≡ false
     → waiting ≡ [] → bytes ≡ (answer_of reply.entry).bytes → (plans : List PlanRecord) (h : History)
-    → Fits plans h (client_value conn lingers given got ended waiting) → Fits plans (after_reply conn (Some reply) h) (client_value conn lingers given got ended bytes)
+    → Fits plans h (client_value conn lingers given got ended waiting reads writes until) → Fits plans (after_reply conn (Some reply) h) (client_value conn lingers given got ended bytes reads writes until)
 fits_reply conn lingers ended given got waiting bytes reply not_left none is plans h f = grind (arith, nat_tests, append-nil, bytes_more, eq-eqb, off_is_not)
 
 nothing_taken : (n : ℕ) (taken : ℕ → List ReplyEntry) (c : ℕ) → with_reply n None taken c ≡ taken c
@@ -256,9 +274,9 @@ fits_no_reply conn x plans h f = record {
 
 -- ---- closing
 
-closes_own : (laws : LoopLaws) (v : GatewayValue) (plans : List PlanRecord) (h : History) (x : ClientValue) (l : Bool) → v.plans ≡ plans → Served v h
-    → Stands plans h x → HasStood plans (after_event (Closing x.conn) h) (record x { lingers = l })
-closes_own laws v plans h x l are served s = record {
+closes_own : (laws : LoopLaws) (v : GatewayValue) (plans : List PlanRecord) (h : History) (x : ClientValue) (l : Bool) (until : Option ℕ) → v.plans ≡ plans → Served v h
+    → Stands plans h x → HasStood plans (after_event (Closing x.conn) h) (record x { lingers = l; until = until })
+closes_own laws v plans h x l until are served s = record {
   explained = record {
     known = s.known;
     dropped = [];
@@ -275,32 +293,40 @@ closes_own laws v plans h x l are served s = record {
   closed = shut_open h.opened x.conn h.events s.known;
 }
 
+-- until when it lingers counts for nothing
+stood_until : {plans : List PlanRecord} {h : History} {x : ClientValue} (until : Option ℕ) → HasStood plans h x → HasStood plans h (record x { until = until })
+stood_until until s =
+    let e = s.explained in record {
+      explained = record { known = e.known; dropped = e.dropped; read = e.read; all_fed = e.all_fed; hangs_up = e.hangs_up; no_other = e.no_other; written = e.written };
+      closed = s.closed;
+    }
+
 -- one that goes, or lingers, once its connection is closed
 pub closes : (laws : LoopLaws) (v : GatewayValue) (plans : List PlanRecord) (h : History) (x : ClientValue) → v.plans ≡ plans → Served v h
     → Fits plans h x → HasStood plans (after_event (Closing x.conn) h) x
 closes laws v plans h x are served f = by_it x.lingers refl
   where
     by_it : (l : Bool) → x.lingers ≡ l → HasStood plans (after_event (Closing x.conn) h) x
-    by_it false is = closes_own laws v plans h x x.lingers are served (f.stands is)
+    by_it false is = closes_own laws v plans h x x.lingers x.until are served (f.stands is)
     by_it true is = stood_on laws plans (λ c. c == x.conn) h (after_event (Closing x.conn) h) x
         (leads_event plans (λ c. c == x.conn) (Closing x.conn) h (λ c off. closing_elsewhere x.conn c off)) (f.stood is)
 
-pub leaves : (laws : LoopLaws) (v : GatewayValue) (plans : List PlanRecord) (h : History) (x : ClientValue) → v.plans ≡ plans → Served v h
-    → Fits plans h x → Fits plans (after_event (Closing x.conn) h) (lingering x)
-leaves laws v plans h x are served f = record {
+pub leaves : (laws : LoopLaws) (v : GatewayValue) (plans : List PlanRecord) (h : History) (x : ClientValue) (until : ℕ) → v.plans ≡ plans → Served v h
+    → Fits plans h x → Fits plans (after_event (Closing x.conn) h) (lingering until x)
+leaves laws v plans h x until are served f = record {
   stands = λ off. absurd (off_is_not true off refl);
   stood = λ on. by_it x.lingers refl;
 }
   where
-    by_it : (l : Bool) → x.lingers ≡ l → HasStood plans (after_event (Closing x.conn) h) (lingering x)
-    by_it false is = closes_own laws v plans h x true are served (f.stands is)
-    by_it true is = subst (λ (l : Bool). HasStood plans (after_event (Closing x.conn) h) (record x { lingers = l })) is (closes laws v plans h x are served f)
+    by_it : (l : Bool) → x.lingers ≡ l → HasStood plans (after_event (Closing x.conn) h) (lingering until x)
+    by_it false is = closes_own laws v plans h x true (Some until) are served (f.stands is)
+    by_it true is = subst (λ (l : Bool). HasStood plans (after_event (Closing x.conn) h) (record x { lingers = l; until = Some until })) is (stood_until (Some until) (closes laws v plans h x are served f))
 
 -- ---- the client of a connection that just opened
 
 pub born_fits : (laws : LoopLaws) (w : GatewayValue) (plans : List PlanRecord) (h : History) (below : (place : ℕ) → succeeds h.opened place ≡ true → place < length h.events)
-    → w.plans ≡ plans → Served w (after_opening h) → (given got : List ℕ) (ended : Bool) → given ≡ [] → got ≡ [] → ended ≡ false
-    → Fits plans (after_opening h) (client_value (connections h.opened h.events) false given got ended [])
+    → w.plans ≡ plans → Served w (after_opening h) → (given got : List ℕ) (ended : Bool) → given ≡ [] → got ≡ [] → ended ≡ false → {reads writes : Bool}
+    → Fits plans (after_opening h) (client_value (connections h.opened h.events) false given got ended [] reads writes None)
 born_fits laws w plans h below are served given got ended none_given none_got on = record {
   stands = λ off. record {
     known = born_known h below;

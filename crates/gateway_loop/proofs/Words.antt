@@ -32,6 +32,6 @@ pub use Rattle.loop_model.specs.Whole.{AsksOn, AsksFairly, ContinuesLoop, GivesU
 pub use Rattle.slab.specs.Slab.{Slab, Updates, entries_from, entries, slab_len}
 pub use Rattle.branch_asking.specs.Addresses.{AddressesValue, AreOf, addresses_value, next_of, HasParsed}
 pub use Rattle.branch_asking.specs.Asking.{AskingState, asked_for, Asks, HasGrown, AttemptValue, HadStream, HasBegun, HasEnded, IsUnsent, IsUntouchedAttempt, asking_state, attempt_value}
-pub use Rattle.gateway_loop.specs.Clients.{Leads, lingering, Fits, HasStood, MakesSteps, Onward, HoldsRest, IsHeld, IsQuiet, OpensNone, lingers_in, HandsNothing, Follows, IsStreamOf, IsServing, FitsOn, Stands}
+pub use Rattle.gateway_loop.specs.Clients.{Leads, lingering, Fits, HasStood, MakesSteps, Onward, HoldsRest, IsHeld, IsQuiet, OpensNone, HandsNothing, Follows, IsStreamOf, IsServing, FitsOn, Stands}
 pub use Rattle.gateway_loop.specs.Laws.{LoopLaws}
-pub use Rattle.gateway_loop.specs.Loop.{AreFramed, Goes, TellsLoop, whole_loop}
+pub use Rattle.gateway_loop.specs.Loop.{AreFramed, IsFramed, Goes, TellsLoop, whole_loop}

@@ -1,5 +1,5 @@
 -- A client of a loop, and what its steps make of the history that the core stands for.
-use Rattle.std.specs.Prelude.{◌≡◌, ℕ, ◌<◌, Bool, true, false, ◌==◌, All, List, [], ◌++◌, map, reverse, Option, Some}
+use Rattle.std.specs.Prelude.{◌≡◌, ℕ, ◌<◌, Bool, true, false, ◌==◌, ◌||◌, All, List, [], ◌++◌, map, reverse, Option, Some}
 use Rattle.std.specs.List.{AllZip}
 use Rattle.call_plan.specs.Plan.{PlanRecord}
 use Rattle.connect_codec.specs.declared.answer.Outcome.{Outcome}
@@ -15,17 +15,16 @@ use Rattle.loop_model.specs.Clients.{ClientValue, IsExplainedClient}
 use Rattle.loop_model.specs.Explained.{LoopValue, at, count_of, one_below}
 use Rattle.loop_model.specs.Growing.{Continues}
 use Rattle.loop_model.specs.Handed.{HandsIn, IsResultOf, has_drained, latest, moments, results}
-use Rattle.gateway_loop.specs.declared.client.Phase.{Phase}
-use Rattle.gateway_loop.specs.declared.client.Phase.TheVariants as phase
+use Rattle.wires.specs.Wires.{is_to_read}
+use Rattle.wires.specs.declared.ready.Ready.{Ready}
 
--- its connection was closed
-abbrev pub lingers_in : Phase → Bool
-lingers_in phase.Reads = false
-lingers_in phase.Deaf = false
-lingers_in phase.Lingers = true
+-- its connection was closed, and it lingers until then at most
+abbrev pub lingering : ℕ → ClientValue → ClientValue
+lingering until x = record x { lingers = true; until = Some until }
 
-abbrev pub lingering : ClientValue → ClientValue
-lingering x = record x { lingers = true }
+-- the report became known of its stream
+abbrev pub reported : Ready → ClientValue → ClientValue
+reported ready x = record x { reads = x.reads || is_to_read ready; writes = x.writes || ready.writable }
 
 -- nothing was read or written yet
 pub record IsFresh (given got : List ℕ) (ended : Bool) : Type 0 where

@@ -3,3 +3,4 @@ pub mod Clients
 pub mod Hints
 pub mod Loop
 pub mod NextTurns
+pub mod Rests

@@ -1,5 +1,5 @@
 -- A loop: its clients, and the jobs that are asked for.
-use Rattle.std.specs.Prelude.{◌≡◌, ℕ, List, [], map, slice_index_or, Option, None, Some, option_map}
+use Rattle.std.specs.Prelude.{◌≡◌, ℕ, false, List, [], map, slice_index_or, Option, None, Some, option_map}
 use Rattle.connect_codec.specs.declared.answer.Outcome.{Outcome}
 use Rattle.http_pieces.specs.declared.framing.Framing.{Framing}
 use Rattle.loop_model.specs.Asking.{ended_value}
@@ -16,9 +16,13 @@ whole_loop framing side asking ended = record {
   ended = map (λ (e : AskingState × Option Outcome). ended_value (asked_for e.0) e.1) ended;
 }
 
--- the replies of all that are asked for may be framed so
+-- the reply to it may be framed so, and nothing was written to a stream that has not taken a byte
+abbrev pub IsFramed : Framing → AskingState → Type 0
+IsFramed framing x = (x.framing ≡ framing) × (x.attempt.connected ≡ false → x.attempt.got ≡ [])
+
+-- .. of all that are asked for
 abbrev pub AreFramed : Framing → List (Option AskingState) → Type 0
-AreFramed framing asking = (i : ℕ) (x : AskingState) → slice_index_or asking i None ≡ Some x → x.framing ≡ framing
+AreFramed framing asking = (i : ℕ) (x : AskingState) → slice_index_or asking i None ≡ Some x → IsFramed framing x
 
 -- a new loop
 pub record StartsLoop (w : WholeLoop) : Type 0 where

@@ -1,13 +1,16 @@
-ghost use Rattle.std.specs.Prelude.{◌≡◌, false, [], ℕ, List};
+ghost use Rattle.std.specs.Prelude.{◌≡◌, ◌||◌, false, [], ℕ, List, None};
 ghost use Rattle.std.specs.Borrow.{sem};
 ghost use Rattle.loop_model.specs.Clients.{client_value};
 ghost use Rattle.loop_model.specs.Growing.{Grows};
-ghost use Rattle.gateway_loop.specs.Clients.{FitsOn, MakesSteps, lingering};
+ghost use Rattle.gateway_loop.specs.Clients.{FitsOn, MakesSteps, lingering, reported};
+ghost use Rattle.gateway_loop.specs.Rests.{rests_client};
 ghost use Rattle.gateway_model.specs.declared.event.Event.TheVariants.{HangUp, Piece};
+ghost use Rattle.gateway_loop.specs.Rests.{is_written};
 ghost use Rattle.gateway_theory.specs.Told.{TakesEvent};
+ghost use Rattle.gateway_theory.specs.Values.{shown};
 
 use crate::hints::Hints;
-use crate::limits::MOST_WRITES;
+use crate::limits::{MOST_WRITES, is_not_after};
 use branch_asking::Network;
 use gateway_core::{CallId, ConnId, Core, ReplyEntry, ReplyHook, RequestLabel, deliver};
 use http_pieces::Bytes;
@@ -20,7 +23,12 @@ use wires::{Got, Outbox, PIECE, Ready, Sent, Wire};
 pub(crate) struct Client<W: Wire> {
     wire: W,
     conn: ConnId,
-    phase: Phase,
+    // its connection is closed: what comes is dropped, so that the last reply is not lost with it
+    lingers: bool,
+    // its stream brings nothing more
+    has_ended: bool,
+    // until when it lingers at most
+    until: Option<u64>,
     outbox: Outbox,
     // the request whose reply waits in the outbox, what answers it, and what a log tells of it
     writing: Option<(CallId, ReplyEntry, RequestLabel)>,
@@ -28,28 +36,14 @@ pub(crate) struct Client<W: Wire> {
 }
 
 impl<W: Wire> Model for Client<W> {
-    ghost use Rattle.std.specs.Prelude.{◌≡◌, false};
+    ghost use Rattle.std.specs.Prelude.{◌≡◌};
     ghost use Rattle.loop_model.specs.Clients.{ClientValue, client_value};
-    ghost use Rattle.gateway_loop.specs.Clients.{lingers_in};
-    ghost use Rattle.gateway_loop.specs.declared.client.Phase.TheVariants.{Reads};
 
     ghost Value = { ClientValue };
 
-    ghost view = { λ c. client_value c.conn (lingers_in c.phase) (W.given c.wire) (W.got c.wire) (W.ended c.wire) c.outbox };
+    ghost view = { λ c. client_value c.conn c.lingers (W.given c.wire) (W.got c.wire) (W.ended c.wire) c.outbox (W.reads c.wire) (W.writes c.wire) c.until };
 
-    // one that is read has not ended
-    ghost invariant = { λ c. c.phase ≡ Reads → W.ended c.wire ≡ false };
-}
-
-/// What is done with a client's stream.
-#[derive(Clone, Copy, PartialEq, Eq)]
-pub(crate) enum Phase {
-    /// It is read, and replies are written.
-    Reads,
-    /// It brings nothing more, and replies are written.
-    Deaf,
-    /// Its connection is closed. What comes is dropped, so that the last reply is not lost with it.
-    Lingers,
+    ghost invariant = { λ c. W.ended c.wire ≡ c.has_ended };
 }
 
 /// What reading a client's stream came to.
@@ -84,12 +78,14 @@ impl<W: Wire> Client<W> {
     /// The client of a new connection.
     pub(crate) fn new(alloc: Global, wire: W, conn: ConnId) -> Client<W>
         requires { W.ended wire ≡ false }
-        ensures { result ≡ client_value conn false (W.given wire) (W.got wire) (W.ended wire) [] }
+        ensures { result ≡ client_value conn false (W.given wire) (W.got wire) (W.ended wire) [] (W.reads wire) (W.writes wire) None }
     {
         Client {
             wire,
             conn,
-            phase: Phase::Reads,
+            lingers: false,
+            has_ended: false,
+            until: None,
             outbox: Outbox::of(Bytes::new(alloc)),
             writing: None,
             hints: Hints::new(alloc),
@@ -123,7 +119,7 @@ impl<W: Wire> Client<W> {
 
     /// Something became possible at its stream.
     pub(crate) fn report(&mut self, ready: Ready)
-        ensures { self.new ≡ self.old }
+        ensures { self.new ≡ reported ready self.old }
     {
         self.wire.report(ready);
     }
@@ -135,27 +131,45 @@ impl<W: Wire> Client<W> {
         self.conn
     }
 
-    pub(crate) fn phase(&self) -> Phase {
-        self.phase
-    }
-
     /// Whether its connection was closed.
     pub(crate) fn lingers(&self) -> bool
         ensures { result ≡ self.now.lingers }
     {
-        self.phase == Phase::Lingers
+        self.lingers
+    }
+
+    /// Whether its stream brings nothing more.
+    pub(crate) fn has_ended(&self) -> bool {
+        self.has_ended
+    }
+
+    /// Whether all was written that was queued for it so far.
+    fn is_written<H: ReplyHook + Drop>(&self, core: &Core<H>) -> bool
+        ensures { result ≡ is_written (shown core.now) self.now }
+    {
+        self.outbox.is_empty() && core.untaken(self.conn) == 0
+    }
+
+    /// Whether nothing is to be done for it before that moment.
+    pub(crate) fn rests<H: ReplyHook + Drop>(&self, core: &Core<H>, until: Option<u64>) -> bool
+        ensures { result ≡ rests_client (shown core.now) until self.now }
+    {
+        let may_read = self.wire.may_read();
+        if self.lingers {
+            return !self.has_ended
+                && !may_read
+                && self.until.is_some()
+                && is_not_after(until, self.until);
+        }
+        if !self.is_written(core) {
+            return !self.wire.may_write();
+        }
+        !core.ended(self.conn) && (self.has_ended || !may_read)
     }
 
     /// Whether it is to be read: its stream may have bytes, and nothing waits to be written to it.
     pub(crate) fn is_to_be_read<H: ReplyHook + Drop>(&self, core: &Core<H>) -> bool {
-        if !self.wire.may_read() {
-            return false;
-        }
-        match self.phase {
-            Phase::Reads => self.outbox.is_empty() && core.untaken(self.conn) == 0,
-            Phase::Deaf => false,
-            Phase::Lingers => true,
-        }
+        self.wire.may_read() && !self.has_ended && (self.lingers || self.is_written(core))
     }
 
     /// Whether a reply is there for it, or its connection, if that is open, no longer brings requests or replies.
@@ -165,7 +179,7 @@ impl<W: Wire> Client<W> {
 
     /// Whether it is owed nothing, and brings nothing more.
     pub(crate) fn is_to_leave<H: ReplyHook + Drop>(&self, core: &Core<H>) -> bool {
-        self.outbox.is_empty() && core.untaken(self.conn) == 0 && core.ended(self.conn)
+        self.is_written(core) && core.ended(self.conn)
     }
 
     /// Whether its connection is open, each of its requests has its reply, and that was written. One whose last bytes
@@ -174,7 +188,7 @@ impl<W: Wire> Client<W> {
         if self.lingers() || self.hints.is_half_read {
             return false;
         }
-        core.is_idle(self.conn) && core.untaken(self.conn) == 0 && self.outbox.is_empty()
+        core.is_idle(self.conn) && self.is_written(core)
     }
 
     /// Reads once, unless it brings nothing more, and hands on what came; if its connection was closed, it is dropped.
@@ -182,13 +196,13 @@ impl<W: Wire> Client<W> {
         ensures steps { MakesSteps core.old core.new self.old self.new }
         ensures grows { Grows self.old self.new }
     {
-        if self.phase == Phase::Deaf {
+        if self.has_ended {
             return Heard::Nothing;
         }
         let mut piece = [0u8; PIECE];
         match self.wire.read(&mut piece) {
             Got::Bytes(count) => {
-                if self.phase == Phase::Lingers {
+                if self.lingers {
                     return Heard::Nothing;
                 }
                 take_in(core, self.conn, &piece[..count])
@@ -196,10 +210,11 @@ impl<W: Wire> Client<W> {
             Got::Nothing => Heard::Nothing,
             Got::Interrupted => Heard::Nothing,
             Got::End(_) => {
-                if self.phase == Phase::Reads {
-                    hang_up(core, self.conn);
-                    self.phase = Phase::Deaf;
+                self.has_ended = true;
+                if self.lingers {
+                    return Heard::End;
                 }
+                hang_up(core, self.conn);
                 Heard::End
             }
         }
@@ -280,12 +295,13 @@ impl<W: Wire> Client<W> {
         }
     }
 
-    /// Ends its sending side. What still comes is dropped.
-    pub(crate) fn linger(&mut self)
-        ensures { self.new ≡ lingering self.old }
+    /// Ends its sending side. What still comes is dropped, until then at most.
+    pub(crate) fn linger(&mut self, until: u64)
+        ensures { self.new ≡ lingering until self.old }
     {
         self.wire.shut();
-        self.phase = Phase::Lingers;
+        self.lingers = true;
+        self.until = Some(until);
     }
 }
 

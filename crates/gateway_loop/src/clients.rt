@@ -1,12 +1,13 @@
-ghost use Rattle.std.specs.Prelude.{◌≡◌, ◌++◌, ◌∷◌, [], ℕ, List, IfOk, option_map, option_to_list};
+ghost use Rattle.std.specs.Prelude.{◌≡◌, ◌++◌, ◌∷◌, [], ℕ, List, IfOk, IsTrue, option_map, option_to_list};
 ghost use Rattle.gateway_loop.specs.Clients.{HandsNothing, Onward, Starts, Tells};
 ghost use Rattle.gateway_model.specs.History.{no_history};
 ghost use Rattle.gateway_theory.specs.Served.{Served};
+ghost use Rattle.gateway_loop.specs.Rests.{AllRest};
 ghost use Rattle.loop_model.specs.Explained.{IsExplained, draining};
 ghost use Rattle.loop_model.specs.Growing.{HasTicked};
 ghost use Rattle.loop_model.specs.Standing.{count_clients, count_lingering};
 
-use crate::client::{Client, Heard, Phase, Written};
+use crate::client::{Client, Heard, Written};
 use crate::comings::Dealt;
 use crate::laws::loop_laws;
 use crate::limits::{MOST_CLIENTS, is_due};
@@ -123,8 +124,9 @@ impl<H: ReplyHook + Drop, W: Wire + Drop> Clients<H, W> {
         written
     }
 
-    /// Closes the connection of the client in that place, which lingers from then on: what still comes is dropped.
-    pub(crate) fn leave(&mut self, place: usize)
+    /// Closes the connection of the client in that place, which lingers from now on, until then at most: what still
+    /// comes is dropped.
+    pub(crate) fn leave(&mut self, place: usize, until: u64)
         ensures goes { Onward self.old self.new }
         ensures told { self.new.told ≡ self.old.told }
         ensures hands { HandsNothing self.old self.new }
@@ -134,7 +136,7 @@ impl<H: ReplyHook + Drop, W: Wire + Drop> Clients<H, W> {
             return;
         };
         self.core.close(client.conn());
-        client.linger();
+        client.linger(until);
         let _place = self.clients.insert_reserved(client);
     }
 
@@ -267,9 +269,28 @@ impl<H: ReplyHook + Drop, W: Wire + Drop> Clients<H, W> {
         }
     }
 
-    /// What is done with the stream of the client in that place.
-    pub(crate) fn phase(&self, place: usize) -> Option<Phase> {
-        Some(self.clients.get(place)?.phase())
+    /// Whether the client in that place lingers: its connection was closed.
+    pub(crate) fn lingers(&self, place: usize) -> bool {
+        self.clients.get(place).is_some_and(Client::lingers)
+    }
+
+    /// Whether the connection of the client in that place is open, and its stream may bring more.
+    pub(crate) fn is_read(&self, place: usize) -> bool {
+        matches!(self.clients.get(place), Some(client) if !client.lingers() && !client.has_ended())
+    }
+
+    /// Whether nothing is to be done for the client in that place before that moment.
+    pub(crate) fn rests(&self, place: usize, until: Option<u64>) -> bool {
+        let client = self.clients.get(place);
+        client.is_none_or(|client| client.rests(&self.core, until))
+    }
+
+    /// Whether nothing is to be done for any client before that moment.
+    pub(crate) fn all_rest(&self, until: Option<u64>) -> bool
+        ensures { IsTrue result → AllRest until self.now }
+    {
+        let mut clients = self.clients.iter();
+        clients.all(|client| client.1.rests(&self.core, until))
     }
 
     /// Whether the client in that place is to be read: its stream may have bytes.
@@ -330,11 +351,16 @@ impl<H: ReplyHook + Drop, W: Wire + Drop> Clients<H, W> {
 impl<H: ReplyHook + Drop, W: Wire + Drop> Clients<H, W> {
     /// Something became possible at the stream of the client in that place.
     pub(crate) fn note_ready(&mut self, place: usize, ready: Ready)
-        ensures { self.new ≡ self.old }
+        ensures goes { Onward self.old self.new }
+        ensures told { self.new.told ≡ self.old.told }
+        ensures hands { HandsNothing self.old self.new }
     {
-        if let Some(client) = self.clients.get_mut(place) {
-            client.report(ready);
-        }
+        loop_laws();
+        let Some(mut client) = self.clients.try_remove(place) else {
+            return;
+        };
+        client.report(ready);
+        let _place = self.clients.insert_reserved(client);
     }
 
     /// Whether the client in that place is in the line from now on. Answers whether it was; true where nobody is there.

@@ -10,9 +10,7 @@ use crate::clients::Clients;
 use crate::closing::ClosingStreams;
 use crate::ends::Ends;
 use crate::exchanges::Exchanges;
-use crate::limits::MOST_EXCHANGES;
 use crate::names::Names;
-use crate::next_turn::NextTurn;
 use crate::roster::Roster;
 use crate::unasked::Unasked;
 use call_plan::Plans;
@@ -74,27 +72,6 @@ impl<H: ReplyHook + Drop, W: Wire + Drop> EventLoop<H, W> {
             closing: ClosingStreams::new(alloc)?,
             exchanges: Exchanges::new(alloc, plans, framing)?,
         })
-    }
-
-    /// When the next turn is due, though nothing comes.
-    pub fn next_turn(&self) -> NextTurn {
-        if self.has_more() {
-            return NextTurn::AtOnce;
-        }
-        let deadline = self.clients().core().next_deadline();
-        let untils = self.roster.next_until().into_iter();
-        let untils = untils.chain(self.closing.next_until());
-        NextTurn::by(untils.chain(deadline).min(), self.clients().moment())
-    }
-
-    /// Whether something is left to be done at once.
-    fn has_more(&self) -> bool {
-        let has_jobs = self.clients().core().waiting_jobs() > 0
-            && self.exchanges.len() < MOST_EXCHANGES;
-        has_jobs
-            || self.roster.line_len() > 0
-            || self.roster.noted_len() > 0
-            || !self.ends.is_empty()
     }
 
     /// How the loop stands.

@@ -1,21 +1,24 @@
-ghost use Rattle.std.specs.Prelude.{◌≡◌, [], IfOk};
+ghost use Rattle.std.specs.Prelude.{◌≡◌, [], IfOk, IsFalse, IsTrue};
 ghost use Rattle.gateway_loop.specs.Loop.{Goes, StartsLoop, TellsLoop};
+ghost use Rattle.gateway_loop.specs.Rests.{AllAskingRest, WaitsForPlace, rests_asking};
 ghost use Rattle.gateway_model.specs.History.{no_history};
 ghost use Rattle.gateway_theory.specs.Served.{Served};
+ghost use Rattle.gateway_theory.specs.Values.{shown};
 ghost use Rattle.loop_model.specs.Growing.{HasTicked};
+ghost use Rattle.loop_model.specs.Rest.{RestsTill};
 ghost use Rattle.loop_model.specs.Whole.{IsExplainedLoop, draining_loop};
 
 use crate::client::{Heard, Written};
 use crate::clients::Clients;
 use crate::comings::Dealt;
-use crate::limits::{ATTEMPT, MOST_EXCHANGES, is_due};
+use crate::limits::{ATTEMPT, MOST_EXCHANGES, is_due, is_not_after};
 use crate::tokens::{Owner, exchange_token, owner_of};
 use branch_asking::{Asking, BranchEnd, Errand, Network, Progress};
 use branch_causes::Cause;
 use branch_exchange::Loss;
 use call_plan::Plans;
 use connect_codec::Outcome;
-use gateway_core::ReplyHook;
+use gateway_core::{Core, ReplyHook};
 use http_pieces::Framing;
 use http_server::Log;
 use slab::Slab;
@@ -106,12 +109,13 @@ impl<H: ReplyHook + Drop, W: Wire + Drop> Exchanges<H, W> {
         self.clients.write(net, place)
     }
 
-    /// Closes the connection of the client in that place, which lingers from then on: what still comes is dropped.
-    pub(crate) fn leave(&mut self, place: usize)
+    /// Closes the connection of the client in that place, which lingers from now on, until then at most: what still
+    /// comes is dropped.
+    pub(crate) fn leave(&mut self, place: usize, until: u64)
         ensures goes { Goes self.old self.new }
         ensures told { self.new.side.told ≡ self.old.side.told }
     {
-        self.clients.leave(place);
+        self.clients.leave(place, until);
     }
 
     /// Closes the stream of the client in that place, and its connection.
@@ -351,16 +355,65 @@ impl<H: ReplyHook + Drop, W: Wire + Drop> Exchanges<H, W> {
     /// Something became possible at the stream of whom the token names; whether that may be told of another's, too, that
     /// had the token before.
     pub(crate) fn note_ready(&mut self, ready: Ready, is_shared: bool)
-        ensures { self.new ≡ self.old }
+        ensures goes { Goes self.old self.new }
+        ensures told { self.new.side.told ≡ self.old.side.told }
     {
         match owner_of(ready.token) {
             Owner::Client(place) => self.clients.note_ready(place, ready),
-            Owner::Exchange(place) => {
-                if let Some(asking) = self.asking.get_mut(place) {
-                    asking.report(ready, is_shared);
-                }
-            }
+            Owner::Exchange(place) => self.report(place, ready, is_shared),
         }
+    }
+
+    /// Something became possible at the stream of the exchange in that place; whether that may be told of another's, too.
+    fn report(&mut self, place: usize, ready: Ready, is_shared: bool)
+        ensures goes { Goes self.old self.new }
+        ensures told { self.new.side.told ≡ self.old.side.told }
+    {
+        let Some(mut asking) = self.asking.try_remove(place) else {
+            return;
+        };
+        asking.report(ready, is_shared);
+        asking.begun_law();
+        let _place = self.asking.insert_reserved(asking);
+    }
+
+    /// Whether nothing is to be done for the job in that place before that moment.
+    pub(crate) fn rests(&self, place: usize, until: Option<u64>) -> bool {
+        let asking = self.asking.get(place);
+        asking.is_none_or(|asking| rests(self.clients.core(), asking, until))
+    }
+
+    /// Whether nothing is to be done before that moment: for no client, and for no job that is asked for; a job waits
+    /// only while all places are taken; and no deadline lies before it.
+    pub(crate) fn rest(&self, until: Option<u64>) -> bool
+        ensures { IsTrue result → RestsTill until self.now }
+    {
+        if self.may_begin() || !is_not_after(until, self.clients.core().next_deadline()) {
+            return false;
+        }
+        if !self.clients.all_rest(until) {
+            return false;
+        }
+        self.all_rest(until)
+    }
+
+    /// Whether a job waits, and there is a place for it.
+    fn may_begin(&self) -> bool
+        ensures { IsFalse result → WaitsForPlace self.now }
+    {
+        if self.asking.len() >= MOST_EXCHANGES {
+            return false;
+        }
+        self.clients.core().waiting_jobs() > 0
+    }
+
+    /// Whether nothing is to be done for any job that is asked for before that moment.
+    fn all_rest(&self, until: Option<u64>) -> bool
+        ensures { IsTrue result → AllAskingRest until self.now }
+    {
+        let core = self.clients.core();
+        let mut asking = self.asking.iter();
+        asking.all(|asking| rests(core, asking.1, until))
     }
 
     /// Whether who has that place is in the line from now on. Answers whether it was; true where nobody is there.
@@ -439,4 +492,16 @@ impl<H: ReplyHook + Drop, W: Wire + Drop> Exchanges<H, W> {
             self.set_waits(*place, None);
         }
     }
+}
+
+/// Whether nothing is to be done for the job before that moment.
+fn rests<H: ReplyHook + Drop, W: Wire>(
+    core: &Core<H>,
+    asking: &Asking<W>,
+    until: Option<u64>,
+) -> bool
+    ensures { result ≡ rests_asking (shown core.now) until asking.now }
+{
+    let job = asking.job();
+    core.is_wanted(&job.call()) && asking.rests() && is_not_after(until, job.deadline())
 }

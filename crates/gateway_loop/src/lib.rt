@@ -15,6 +15,7 @@ mod laws;
 mod limits;
 mod names;
 mod next_turn;
+mod rest;
 mod roster;
 mod serving;
 mod tokens;

@@ -1,3 +1,6 @@
+ghost use Rattle.std.specs.Prelude.{◌≡◌};
+ghost use Rattle.gateway_loop.specs.Rests.{is_at_most};
+
 /// So many exchanges with backends are under way at most; further jobs wait in the core.
 pub const MOST_EXCHANGES: usize = 1_024;
 
@@ -30,6 +33,17 @@ pub(crate) const CLOSING: u64 = 50;
 
 /// How long an address has to accept that another follows, where the job has no deadline, in milliseconds.
 pub(crate) const ATTEMPT: u64 = 1_000;
+
+/// Whether the moment, if there is one, is no later than the limit, if there is one.
+pub(crate) fn is_not_after(moment: Option<u64>, limit: Option<u64>) -> bool
+    ensures { result ≡ is_at_most moment limit }
+{
+    match (moment, limit) {
+        (_, None) => true,
+        (None, Some(_)) => false,
+        (Some(moment), Some(limit)) => moment <= limit,
+    }
+}
 
 /// Whether the deadline has come.
 pub(crate) fn is_due(deadline: Option<u64>, moment: u64) -> bool {

@@ -2,7 +2,7 @@ ghost use Rattle.gateway_loop.specs.Loop.{Goes, TellsLoop};
 ghost use Rattle.loop_model.specs.Whole.{ContinuesLoop};
 ghost use Rattle.std.specs.Prelude.{◌≡◌};
 
-use crate::client::{Heard, Phase, Written};
+use crate::client::{Heard, Written};
 use crate::comings::Dealt;
 use crate::event_loop::EventLoop;
 use crate::limits::{LINGER, MOST_LINGERING};
@@ -73,7 +73,7 @@ impl<H: ReplyHook + Drop, W: Wire + Drop> EventLoop<H, W> {
         // before what it brings
         self.tick(net);
         let heard = self.read_client(place);
-        if heard == Heard::End && self.clients().phase(place) == Some(Phase::Lingers) {
+        if heard == Heard::End && self.clients().lingers(place) {
             return self.drop_client(place);
         }
         if matches!(heard, Heard::Broke | Heard::End) {
@@ -119,7 +119,7 @@ impl<H: ReplyHook + Drop, W: Wire + Drop> EventLoop<H, W> {
         ensures goes { Goes self.old self.new }
         ensures told { TellsLoop (N.told net.old) (N.told net.new) self.old self.new }
     {
-        if self.clients().phase(place) == Some(Phase::Lingers) {
+        if self.clients().lingers(place) {
             if self.clients().is_to_be_read(place) {
                 self.line_up(client_token(place));
             }
@@ -157,12 +157,11 @@ impl<H: ReplyHook + Drop, W: Wire + Drop> EventLoop<H, W> {
         ensures goes { Goes self.old self.new }
         ensures told { self.new.side.told ≡ self.old.side.told }
     {
-        let lingers = self.clients().phase(place) == Some(Phase::Reads)
-            && self.clients().lingering() < MOST_LINGERING;
-        let exchanges = self.exchanges.take_exchanges(place);
-        self.exchanges.leave(place);
-        self.give_up_all(exchanges);
+        let lingers = self.clients().is_read(place) && self.clients().lingering() < MOST_LINGERING;
         let until = self.clients().moment().saturating_add(LINGER);
+        let exchanges = self.exchanges.take_exchanges(place);
+        self.exchanges.leave(place, until);
+        self.give_up_all(exchanges);
         if !lingers || !self.roster.set_until(client_token(place), Some(until)) {
             self.drop_client(place);
         } else if self.clients().is_to_be_read(place) {

@@ -20,8 +20,13 @@ impl<H: ReplyHook + Drop, W: Wire + Drop> EventLoop<H, W> {
         ensures told { TellsLoop (N.told net.old) (N.told net.new) self.old self.new }
         ensures ticks { HasTicked self.old.side self.new.side }
     {
+        let is_unasked = comings.is_empty() && !self.has_more();
         self.tick(net);
         self.take_comings(net, comings);
+        if is_unasked {
+            // a limit has come, or something was overlooked
+            self.look_round();
+        }
         self.serve_line(net);
         self.expire(net);
         self.settle(net);

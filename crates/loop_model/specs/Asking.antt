@@ -32,6 +32,11 @@ pub record AskingValue : Type 0 where
   pub peer : Option SocketAddr
   pub given : List ℕ
   pub got : List ℕ
+  -- by all that was reported of that stream and answered: whether a read may bring something, and whether a write may be taken
+  pub reads : Bool
+  pub writes : Bool
+  -- whether it has ended, and its outcome is to be recorded
+  pub over : Bool
 
 -- one that has ended, and the outcome that was recorded; None where there was no memory for one
 pub record EndedValue : Type 0 where

@@ -1,5 +1,5 @@
 -- A client of a loop, and how events explain what was read from its stream and written to it.
-use Rattle.std.specs.Prelude.{◌≡◌, ℕ, ◌<◌, Bool, true, false, List, [], ◌++◌}
+use Rattle.std.specs.Prelude.{◌≡◌, ℕ, ◌<◌, Bool, true, false, List, [], ◌++◌, Option}
 use Rattle.call_plan.specs.Plan.{PlanRecord}
 use Rattle.gateway_model.specs.Events.{Occurs, connections, hung_up, stream}
 use Rattle.gateway_model.specs.History.{History}
@@ -19,9 +19,24 @@ pub record ClientValue : Type 0 where
   pub ended : Bool
   -- what waits to be written
   pub waiting : List ℕ
+  -- by all that was reported and answered: whether a read may bring something, and whether a write may be taken
+  pub reads : Bool
+  pub writes : Bool
+  -- until when it lingers at most
+  pub until : Option ℕ
 
-abbrev pub client_value : ℕ → Bool → List ℕ → List ℕ → Bool → List ℕ → ClientValue
-client_value conn lingers given got ended waiting = record { conn = conn; lingers = lingers; given = given; got = got; ended = ended; waiting = waiting }
+abbrev pub client_value : ℕ → Bool → List ℕ → List ℕ → Bool → List ℕ → Bool → Bool → Option ℕ → ClientValue
+client_value conn lingers given got ended waiting reads writes until = record {
+  conn = conn;
+  lingers = lingers;
+  given = given;
+  got = got;
+  ended = ended;
+  waiting = waiting;
+  reads = reads;
+  writes = writes;
+  until = until;
+}
 
 -- What was read from it are the pieces of its connection among the events, joined; it has hung up exactly if a read found its end; and
 -- what was written to it, and then what waits, begins what is queued for it. Of one that lingers what came since is dropped.

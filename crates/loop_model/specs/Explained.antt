@@ -1,5 +1,5 @@
 -- One list of events explains all clients of a loop.
-use Rattle.std.specs.Prelude.{◌≡◌, ℕ, ◌+◌, ◌==◌, Bool, true, false, if◌then◌else◌, nat_lt, not, All, List, count_by, slice_index_or, reverse, Option, Some, None}
+use Rattle.std.specs.Prelude.{◌≡◌, ℕ, ◌+◌, ◌==◌, Bool, true, false, if◌then◌else◌, nat_lt, not, All, List, ◌++◌, count_by, slice_index_or, reverse, Option, Some, None}
 use Rattle.std.specs.List.{AllZip}
 use Rattle.std.specs.Option.{option_map_or}
 use Rattle.connect_codec.specs.declared.answer.Outcome.{Outcome}
@@ -7,6 +7,7 @@ use Rattle.gateway_model.specs.Events.{Occurs, connections, is_open}
 use Rattle.gateway_model.specs.History.{History}
 use Rattle.gateway_model.specs.Job.{JobValue}
 use Rattle.gateway_model.specs.Known.{IsKnown}
+use Rattle.gateway_model.specs.Run.{bytes_of}
 use Rattle.gateway_model.specs.Starts.{Placed, occurrences}
 use Rattle.gateway_theory.specs.Values.{GatewayValue, shown}
 use Rattle.loop_model.specs.Clients.{ClientValue, IsExplainedClient}
@@ -49,6 +50,9 @@ pub record IsExplainedBy (unknown : Outcome) (l : LoopValue) : Type 0 where
   pub history : History
   pub knows : (occurred : List Placed) → Occurs l.core.plans history.opened history.events occurred → IsKnown (shown l.core) history (occurrences occurred)
   pub clients : (i : ℕ) (x : ClientValue) → at i l.clients ≡ Some x → IsExplainedClient l.core.plans history x
+  -- what was written to one whose connection is open, and then what waits, is all that was taken of its queue
+  pub taken : (occurred : List Placed) → Occurs l.core.plans history.opened history.events occurred
+      → (i : ℕ) (x : ClientValue) → at i l.clients ≡ Some x → x.lingers ≡ false → x.got ++ x.waiting ≡ bytes_of (history.taken x.conn)
   -- the connection of one that is there is open, unless it lingers
   pub still_open : (i : ℕ) (x : ClientValue) → at i l.clients ≡ Some x → is_open history.opened x.conn history.events ≡ not x.lingers
   -- each connection that was opened is that of one client, and no two have one

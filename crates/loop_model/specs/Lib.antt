@@ -5,3 +5,4 @@ pub mod Growing
 pub mod Standing
 pub mod Asking
 pub mod Whole
+pub mod Rest

@@ -1,10 +1,11 @@
 -- What the worked rows speak of.
-use Rattle.std.specs.Prelude.{◌≡◌, ◌<◌, ℕ, Bool, false, List, [], ◌∷◌, ◌++◌, map, Option, None, Some}
+use Rattle.std.specs.Prelude.{◌≡◌, ◌<◌, ℕ, Bool, true, false, List, [], ◌∷◌, ◌++◌, map, Option, None, Some, is_some}
 use Rattle.call_plan.specs.Plan.{PlanRecord}
 use Rattle.connect_codec.specs.declared.answer.Outcome.{Outcome}
 use Rattle.gateway_model.specs.Events.{Before, Occurs, connections, hung_up, stream}
 use Rattle.gateway_model.specs.History.{History, history_of}
 use Rattle.gateway_model.specs.Job.{JobValue}
+use Rattle.gateway_model.specs.Known.{Shown}
 use Rattle.gateway_model.specs.Past.{call_id, marked}
 use Rattle.gateway_model.specs.Queue.{queued}
 use Rattle.gateway_model.specs.Starts.{Placed, occurrences}
@@ -36,23 +37,27 @@ result_of conn request branch outcome = record { call = call_id conn request; br
 
 -- that job is asked for, and nothing was done for it yet
 abbrev pub asking : JobValue → AskingValue
-asking job = record { job = job; found = []; tried = []; peer = None; given = []; got = [] }
+asking job = record { job = job; found = []; tried = []; peer = None; given = []; got = []; reads = false; writes = false; over = false }
 
 -- it is asked for so, over a stream to this address, which was found for its name behind those that were tried
 abbrev pub asked : SocketAddr → JobValue → List StreamValue → List ℕ → List ℕ → AskingValue
-asked a job tried given got = record { job = job; found = map (λ (s : StreamValue). s.peer) tried ++ a ∷ []; tried = tried; peer = Some a; given = given; got = got }
+asked a job tried given got = record { job = job; found = map (λ (s : StreamValue). s.peer) tried ++ a ∷ []; tried = tried; peer = Some a; given = given; got = got; reads = false; writes = false; over = false }
 
 -- .. over a stream to this address, where these were found for its name
 abbrev pub asked_at_peer : SocketAddr → List SocketAddr → JobValue → AskingValue
-asked_at_peer peer found job = record { job = job; found = found; tried = []; peer = Some peer; given = []; got = [] }
+asked_at_peer peer found job = record { job = job; found = found; tried = []; peer = Some peer; given = []; got = []; reads = false; writes = false; over = false }
 
 -- it was asked for so, and that was recorded of it
 abbrev pub ended : SocketAddr → JobValue → List StreamValue → List ℕ → List ℕ → Option Outcome → EndedValue
 ended a job tried given got outcome = ended_value (asked a job tried given got) outcome
 
--- a client of that connection, of whom nothing came
+-- a client of that connection: whether it lingers, what was read and written, whether a read found its end, and what waits to be written
+abbrev pub client_with : ℕ → Bool → List ℕ → List ℕ → Bool → List ℕ → ClientValue
+client_with conn lingers given got ended waiting = client_value conn lingers given got ended waiting false false None
+
+-- .. of whom nothing came
 abbrev pub client_of : ℕ → ClientValue
-client_of conn = client_value conn false [] [] false []
+client_of conn = client_with conn false [] [] false []
 
 -- a loop with these clients in their places, and these who are gone, that was told nothing
 abbrev pub with_clients : GatewayValue → List (Option ClientValue) → List ClientValue → LoopValue
@@ -87,3 +92,24 @@ pub record IsReplyInChunks (text : List ℕ) (reply : HttpReply) : Type 0 where
   pub taken : IsCut (reply_kind framing.Any) text (Complete reply rest)
   pub fault : ReplyFault
   pub not_taken : IsCut (reply_kind framing.Fixed) text (Refused fault)
+
+-- a client of connection 0 that brought nothing: what waits for it, whether it may be read and written
+abbrev pub standing_client : List ℕ → Bool → Bool → ClientValue
+standing_client waiting reads writes = client_value 0 false [] [] false waiting reads writes None
+
+-- .. that lingers: whether its end was found, whether it may be read, and until when
+abbrev pub lingering_client : Bool → Bool → Option ℕ → ClientValue
+lingering_client ended reads until = client_value 0 true [] [] ended [] reads true until
+
+-- that job is asked for, so much of its request was written, and this may be done at its stream; and whether it has ended
+abbrev pub standing_job : JobValue → List ℕ → Bool → Bool → Bool → AskingValue
+standing_job job got reads writes over = record { job = job; found = []; tried = []; peer = None; given = []; got = got; reads = reads; writes = writes; over = over }
+
+-- nothing is there for connection 0, which goes on
+pub record IsQuietAt (s : Shown) : Type 0 where
+  pub nothing_untaken : s.untaken 0 ≡ []
+  pub goes_on : s.is_ended 0 ≡ false
+
+-- its call can still be decided
+abbrev pub IsWantedBy : Shown → JobValue → Type 0
+IsWantedBy s job = is_some (s.recorded job.call) ≡ true

@@ -1,5 +1,5 @@
 //! The worked rows of a loop: what explains a client and what does not, whose connections are, when it drains, which
-//! moments and results are handed in, and how exchanges end. Nothing of it runs.
+//! moments and results are handed in, how exchanges end, and when a loop rests. Nothing of it runs.
 #![tactic(auto)]
 
 mod rows_of_clients;
@@ -8,4 +8,5 @@ mod rows_of_drains;
 mod rows_of_exchanges;
 mod rows_of_loops;
 mod rows_of_moments;
+mod rows_of_rest;
 mod rows_of_results;

@@ -1,37 +1,33 @@
-use Rattle.gateway_loop.proofs.Words.{◌≡◌, ap, refl, rules, take, HangUp, Piece, lingers_in}
+use Rattle.gateway_loop.proofs.Words.{◌∙◌, refl, take, HangUp, Piece}
 use Rattle.gateway_loop.proofs.GrowLemmas.{grows_by, no_more}
 use Rattle.gateway_loop.proofs.LeadLemmas.{hang_up_elsewhere, piece_elsewhere}
 use Rattle.gateway_loop.proofs.StepLemmas.{fits_dropped, fits_hang_up, fits_piece, fits_still, steps_event, steps_fit}
-use Rattle.gateway_loop.specs.declared.client.Phase.TheVariants.{Lingers, Reads}
 use Rattle.gateway_loop.proofs.client.Client.read.Goals as goal
 
-pub returns-else-eq-2-clause-steps : goal.returns-else-eq-2-clause-steps
-returns-else-eq-2-clause-steps g c =
+pub returns-else-self-2-clause-steps : goal.returns-else-self-2-clause-steps
+returns-else-self-2-clause-steps g c =
     let i = c.self.inside in
     let e = c.in-Bytes.ensures in
     let bytes = take c.in-Bytes.count c.read.new.piece in
-    let reads : i.phase ≡ Reads = search rules in
     rw (← c.self.view_is)
     (steps_event c.args.core.now c.take_in.new.core _ _ (Piece i.conn bytes) c.take_in.ensures.plans refl c.take_in.ensures.stands
-    (fits_piece i.conn c.in-Bytes.count (lingers_in i.phase) (g.W.Wire.ended i.wire) _ (g.W.Wire.given i.wire) (g.W.Wire.got i.wire) i.outbox _ _ c.read.new.piece (ap lingers_in reads) e.given.2 e.got e.ended
-    (c.self.invariant reads)) (λ d off. piece_elsewhere i.conn bytes d off) refl refl refl refl)
+    (fits_piece i.conn c.in-Bytes.count i.lingers (g.W.Wire.ended i.wire) _ (g.W.Wire.given i.wire) (g.W.Wire.got i.wire) i.outbox _ _ c.read.new.piece c.if-self-2.false e.given.2 e.got e.ended
+    (c.self.invariant ∙ c.if-self.false)) (λ d off. piece_elsewhere i.conn bytes d off) refl refl refl refl)
 
-pub returns-then-eq-2-clause-steps : goal.returns-then-eq-2-clause-steps
-returns-then-eq-2-clause-steps g c =
+pub returns-then-self-2-clause-steps : goal.returns-then-self-2-clause-steps
+returns-then-self-2-clause-steps g c =
     let i = c.self.inside in
     let e = c.in-Bytes.ensures in
-    let left : i.phase ≡ Lingers = search rules in
     rw (← c.self.view_is)
-    (steps_fit _ _ _ (fits_dropped i.conn c.in-Bytes.count (lingers_in i.phase) (g.W.Wire.ended i.wire) _ (g.W.Wire.given i.wire) (g.W.Wire.got i.wire) i.outbox _ _ c.read.new.piece (ap lingers_in left) e.given.2 e.got e.ended))
+    (steps_fit _ _ _ (fits_dropped i.conn c.in-Bytes.count i.lingers (g.W.Wire.ended i.wire) _ (g.W.Wire.given i.wire) (g.W.Wire.got i.wire) i.outbox _ _ c.read.new.piece c.if-self-2.true e.given.2 e.got e.ended))
 
-pub returns-then-eq-3-clause-steps : goal.returns-then-eq-3-clause-steps
-returns-then-eq-3-clause-steps g c =
+pub returns-else-self-3-clause-steps : goal.returns-else-self-3-clause-steps
+returns-else-self-3-clause-steps g c =
     let i = c.self.inside in
     let e = c.in-End.ensures in
-    let reads : i.phase ≡ Reads = search rules in
     rw (← c.self.view_is)
     (steps_event c.args.core.now c.hang_up.new.core _ _ (HangUp i.conn) c.hang_up.ensures.plans refl c.hang_up.ensures.stands
-    (fits_hang_up i.conn (lingers_in i.phase) (g.W.Wire.ended i.wire) _ (g.W.Wire.given i.wire) (g.W.Wire.got i.wire) i.outbox _ _ (ap lingers_in reads) e.given e.got e.ended)
+    (fits_hang_up i.conn i.lingers (g.W.Wire.ended i.wire) _ (g.W.Wire.given i.wire) (g.W.Wire.got i.wire) i.outbox _ _ c.if-self-3.false e.given e.got e.ended)
     (λ d off. hang_up_elsewhere i.conn d off) refl refl refl refl)
 
 pub returns-in-Nothing-clause-steps : goal.returns-in-Nothing-clause-steps
@@ -44,13 +40,13 @@ returns-in-Interrupted-clause-steps g c =
     let e = c.in-Interrupted.ensures in
     rw (← c.self.view_is) (steps_fit _ _ _ (fits_still _ _ _ _ _ _ _ _ _ e.given e.got e.ended))
 
-pub returns-then-eq-2-clause-grows : goal.returns-then-eq-2-clause-grows
-returns-then-eq-2-clause-grows g c =
+pub returns-then-self-2-clause-grows : goal.returns-then-self-2-clause-grows
+returns-then-self-2-clause-grows g c =
     let e = c.in-Bytes.ensures in
     rw (← c.self.view_is) (grows_by _ _ _ _ _ _ _ _ _ _ _ _ _ e.given.2 (no_more _ _ e.got))
 
-pub returns-else-eq-2-clause-grows : goal.returns-else-eq-2-clause-grows
-returns-else-eq-2-clause-grows g c =
+pub returns-else-self-2-clause-grows : goal.returns-else-self-2-clause-grows
+returns-else-self-2-clause-grows g c =
     let e = c.in-Bytes.ensures in
     rw (← c.self.view_is) (grows_by _ _ _ _ _ _ _ _ _ _ _ _ _ e.given.2 (no_more _ _ e.got))
 
@@ -64,12 +60,12 @@ returns-in-Interrupted-clause-grows g c =
     let e = c.in-Interrupted.ensures in
     rw (← c.self.view_is) (grows_by _ _ _ _ _ _ _ _ _ _ _ _ _ (no_more _ _ e.given) (no_more _ _ e.got))
 
-pub returns-then-eq-3-clause-grows : goal.returns-then-eq-3-clause-grows
-returns-then-eq-3-clause-grows g c =
+pub returns-else-self-3-clause-grows : goal.returns-else-self-3-clause-grows
+returns-else-self-3-clause-grows g c =
     let e = c.in-End.ensures in
     rw (← c.self.view_is) (grows_by _ _ _ _ _ _ _ _ _ _ _ _ _ (no_more _ _ e.given) (no_more _ _ e.got))
 
-pub returns-else-eq-3-clause-grows : goal.returns-else-eq-3-clause-grows
-returns-else-eq-3-clause-grows g c =
+pub returns-then-self-3-clause-grows : goal.returns-then-self-3-clause-grows
+returns-then-self-3-clause-grows g c =
     let e = c.in-End.ensures in
     rw (← c.self.view_is) (grows_by _ _ _ _ _ _ _ _ _ _ _ _ _ (no_more _ _ e.given) (no_more _ _ e.got))

@@ -1,4 +1,4 @@
-use Rattle.gateway_loop.proofs.Words.{◌∙◌, lingers_in}
+use Rattle.gateway_loop.proofs.Words.{◌∙◌}
 use Rattle.gateway_loop.proofs.GrowLemmas.{grows_by, grows_same, no_more}
 use Rattle.gateway_loop.proofs.StepLemmas.{fits_as_before, fits_sent, fits_still}
 use Rattle.gateway_loop.proofs.client.Client.send.Goals as goal
@@ -8,14 +8,14 @@ returns-then-is_empty-2-clause-fits g c =
     let i = c.self.inside in
     let e = c.in-Bytes.ensures in
     rw (c.tell.ensures.same, ← c.self.view_is, c.sent.ensures)
-    (fits_sent i.conn c.in-Bytes.count (lingers_in i.phase) (g.W.Wire.ended i.wire) _ (g.W.Wire.given i.wire) (g.W.Wire.got i.wire) i.outbox _ _ e.given e.got.2 e.ended)
+    (fits_sent i.conn c.in-Bytes.count i.lingers (g.W.Wire.ended i.wire) _ (g.W.Wire.given i.wire) (g.W.Wire.got i.wire) i.outbox _ _ e.given e.got.2 e.ended)
 
 pub returns-else-is_empty-2-clause-fits : goal.returns-else-is_empty-2-clause-fits
 returns-else-is_empty-2-clause-fits g c =
     let i = c.self.inside in
     let e = c.in-Bytes.ensures in
     rw (← c.self.view_is, c.sent.ensures)
-    (fits_sent i.conn c.in-Bytes.count (lingers_in i.phase) (g.W.Wire.ended i.wire) _ (g.W.Wire.given i.wire) (g.W.Wire.got i.wire) i.outbox _ _ e.given e.got.2 e.ended)
+    (fits_sent i.conn c.in-Bytes.count i.lingers (g.W.Wire.ended i.wire) _ (g.W.Wire.given i.wire) (g.W.Wire.got i.wire) i.outbox _ _ e.given e.got.2 e.ended)
 
 pub returns-then-is_empty-2-clause-grows : goal.returns-then-is_empty-2-clause-grows
 returns-then-is_empty-2-clause-grows g c =
@@ -64,16 +64,16 @@ returns-in-Failed-clause-grows g c =
     rw (c.tell-in-Failed.ensures.same, ← c.self.view_is) (grows_by _ _ _ _ _ _ _ _ _ _ _ _ _ (no_more _ _ e.given) (no_more _ _ e.got))
 
 pub invariant_of-self : goal.invariant_of-self
-invariant_of-self g c = λ reads. c.in-Bytes.ensures.ended ∙ c.self.invariant reads
+invariant_of-self g c = c.in-Bytes.ensures.ended ∙ c.self.invariant
 
 pub invariant_of-self-else-is_empty-2 : goal.invariant_of-self-else-is_empty-2
-invariant_of-self-else-is_empty-2 g c = λ reads. c.in-Bytes.ensures.ended ∙ c.self.invariant reads
+invariant_of-self-else-is_empty-2 g c = c.in-Bytes.ensures.ended ∙ c.self.invariant
 
 pub invariant_of-self-in-Failed : goal.invariant_of-self-in-Failed
-invariant_of-self-in-Failed g c = λ reads. c.in-Failed.ensures.ended ∙ c.self.invariant reads
+invariant_of-self-in-Failed g c = c.in-Failed.ensures.ended ∙ c.self.invariant
 
 pub invariant_of-self-in-Interrupted : goal.invariant_of-self-in-Interrupted
-invariant_of-self-in-Interrupted g c = λ reads. c.in-Interrupted.ensures.ended ∙ c.self.invariant reads
+invariant_of-self-in-Interrupted g c = c.in-Interrupted.ensures.ended ∙ c.self.invariant
 
 pub invariant_of-self-in-Nothing : goal.invariant_of-self-in-Nothing
-invariant_of-self-in-Nothing g c = λ reads. c.in-Nothing.ensures.ended ∙ c.self.invariant reads
+invariant_of-self-in-Nothing g c = c.in-Nothing.ensures.ended ∙ c.self.invariant

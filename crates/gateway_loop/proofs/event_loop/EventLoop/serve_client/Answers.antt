@@ -19,8 +19,8 @@ returns-clause-told g c =
     ] in
     λ u is. rw (c.note.ensures.told, same, c.read_client-heard.ensures.told) (c.tick.ensures.told u is)
 
-pub returns-then-eq-2-clause-goes : goal.returns-then-eq-2-clause-goes
-returns-then-eq-2-clause-goes g c = goes_then _ _ _ c.tick.ensures.goes (goes_then _ _ _ c.read_client-heard.ensures.goes c.drop_client.ensures.goes)
+pub returns-then-lingers-clause-goes : goal.returns-then-lingers-clause-goes
+returns-then-lingers-clause-goes g c = goes_then _ _ _ c.tick.ensures.goes (goes_then _ _ _ c.read_client-heard.ensures.goes c.drop_client.ensures.goes)
 
-pub returns-then-eq-2-clause-told : goal.returns-then-eq-2-clause-told
-returns-then-eq-2-clause-told g c = λ u is. rw (c.drop_client.ensures.told, c.read_client-heard.ensures.told) (c.tick.ensures.told u is)
+pub returns-then-lingers-clause-told : goal.returns-then-lingers-clause-told
+returns-then-lingers-clause-told g c = λ u is. rw (c.drop_client.ensures.told, c.read_client-heard.ensures.told) (c.tick.ensures.told u is)

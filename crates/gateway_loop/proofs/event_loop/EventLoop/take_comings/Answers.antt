@@ -3,8 +3,8 @@ use Rattle.gateway_loop.proofs.event_loop.EventLoop.take_comings.Goals as goal
 
 pub loop-ready-preserved : goal.loop-ready-preserved
 loop-ready-preserved g c = (
-  goes_then _ _ _ c.loop-ready.invariant.0 (rw (c.note_ready.ensures, c.self.view_is) at c.line_up.ensures.goes),
-  λ u is. rw (c.line_up.ensures.told, c.note_ready.ensures, c.self.view_is) (c.loop-ready.invariant.1 u is),
+  goes_then _ _ _ c.loop-ready.invariant.0 (rw (← c.self.view_is) (goes_then _ _ _ c.note_ready.ensures.goes c.line_up.ensures.goes)),
+  λ u is. rw (c.line_up.ensures.told, c.note_ready.ensures.told, c.self.view_is) (c.loop-ready.invariant.1 u is),
 )
 
 pub loop-ready-init : goal.loop-ready-init

@@ -7,11 +7,11 @@ returns-else-is_to_be_read-2-clause-goes g c = rw (← c.self.view_is) c.write-w
 pub returns-else-is_to_be_read-2-clause-told : goal.returns-else-is_to_be_read-2-clause-told
 returns-else-is_to_be_read-2-clause-told g c = λ u is. rw (c.write-written.ensures.told, c.write-written.ensures.same, c.self.view_is) is
 
-pub returns-then-eq-2-clause-goes : goal.returns-then-eq-2-clause-goes
-returns-then-eq-2-clause-goes g c = rw (← c.self.view_is) (goes_then _ _ _ c.write-written.ensures.goes c.drop_client.ensures.goes)
+pub returns-then-eq-clause-goes : goal.returns-then-eq-clause-goes
+returns-then-eq-clause-goes g c = rw (← c.self.view_is) (goes_then _ _ _ c.write-written.ensures.goes c.drop_client.ensures.goes)
 
-pub returns-then-eq-2-clause-told : goal.returns-then-eq-2-clause-told
-returns-then-eq-2-clause-told g c = λ u is. rw (c.drop_client.ensures.told, c.tell_broken.ensures, c.write-written.ensures.told, c.write-written.ensures.same, c.self.view_is) is
+pub returns-then-eq-clause-told : goal.returns-then-eq-clause-told
+returns-then-eq-clause-told g c = λ u is. rw (c.drop_client.ensures.told, c.tell_broken.ensures, c.write-written.ensures.told, c.write-written.ensures.same, c.self.view_is) is
 
 pub returns-then-is_to_leave-clause-goes : goal.returns-then-is_to_leave-clause-goes
 returns-then-is_to_leave-clause-goes g c = rw (← c.self.view_is) (goes_then _ _ _ c.write-written.ensures.goes c.leave.ensures.goes)
@@ -19,11 +19,11 @@ returns-then-is_to_leave-clause-goes g c = rw (← c.self.view_is) (goes_then _ 
 pub returns-then-is_to_leave-clause-told : goal.returns-then-is_to_leave-clause-told
 returns-then-is_to_leave-clause-told g c = λ u is. rw (c.leave.ensures.told, c.tell_broken-then-is_to_leave.ensures, c.write-written.ensures.told, c.write-written.ensures.same, c.self.view_is) is
 
-pub returns-then-eq-3-clause-goes : goal.returns-then-eq-3-clause-goes
-returns-then-eq-3-clause-goes g c = rw (← c.self.view_is) (goes_then _ _ _ c.write-written.ensures.goes c.line_up-then-eq-3.ensures.goes)
+pub returns-then-eq-2-clause-goes : goal.returns-then-eq-2-clause-goes
+returns-then-eq-2-clause-goes g c = rw (← c.self.view_is) (goes_then _ _ _ c.write-written.ensures.goes c.line_up-then-eq-2.ensures.goes)
 
-pub returns-then-eq-3-clause-told : goal.returns-then-eq-3-clause-told
-returns-then-eq-3-clause-told g c = λ u is. rw (c.line_up-then-eq-3.ensures.told, c.write-written.ensures.told, c.write-written.ensures.same, c.self.view_is) is
+pub returns-then-eq-2-clause-told : goal.returns-then-eq-2-clause-told
+returns-then-eq-2-clause-told g c = λ u is. rw (c.line_up-then-eq-2.ensures.told, c.write-written.ensures.told, c.write-written.ensures.same, c.self.view_is) is
 
 pub returns-then-is_to_be_read-clause-goes : goal.returns-then-is_to_be_read-clause-goes
 returns-then-is_to_be_read-clause-goes g c = c.line_up.ensures.goes

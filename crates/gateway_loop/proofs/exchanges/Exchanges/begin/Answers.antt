@@ -12,7 +12,7 @@ invariant_of-self-2 g c =
     c.in_ok-job.ensures.results c.in_ok-job.ensures.handed (ap (λ (j : HandedJob). j.job) c.new-asking.ensures.job) c.new-asking.ensures.framing
     (sym (ap (λ (old : List (Option AskingState)). slice_index_or old put.result None) slots) ∙ put.ensures.was_vacant)
     (subst (λ (old : List (Option AskingState)). Put old put.new.self.slots put.result (Some c.new-asking.result)) slots (put_one c.reserve.new.self put.new.self put.result _ put.ensures.updates))
-    c.begun_law.ensures c.self.invariant
+    c.begun_law.ensures.begun c.begun_law.ensures.untouched c.self.invariant
 
 pub invariant_of-self-in_err-job : goal.invariant_of-self-in_err-job
 invariant_of-self-in_err-job g c =

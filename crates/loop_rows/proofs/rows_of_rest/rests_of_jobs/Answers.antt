@@ -1,0 +1,42 @@
+use Rattle.std.proofs.Common.{◌≡◌, ◌∷◌, ℕ, List, [], Option, Some, None, arith, refl, subst, sym, ◌∙◌, true, false}
+use Rattle.loop_model.specs.Asking.{request_of}
+use Rattle.loop_model.specs.Rest.{AtMost}
+use Rattle.loop_rows.proofs.RowLemmas.{off_on, on_off}
+use Rattle.loop_rows.proofs.rows_of_rest.rests_of_jobs.Goals as goal
+
+some_not_none : (b : ℕ) (more : List ℕ) → b ∷ more ≡ [] → ⊥
+some_not_none b more e = cc
+
+no_limit : (until limit : Option ℕ) → limit ≡ None → AtMost until limit
+no_limit until limit none = subst (λ (l : Option ℕ). AtMost until l) (sym none) tt
+
+pub returns-clause-waits : goal.returns-clause-waits
+returns-clause-waits c s until j wanted none = record { wanted = wanted; goes_on = refl; limited = no_limit until j.deadline none; unread = λ some. refl; unsent = λ unsent. absurd (unsent refl) }
+
+pub returns-clause-full : goal.returns-clause-full
+returns-clause-full c s until j wanted none = record { wanted = wanted; goes_on = refl; limited = no_limit until j.deadline none; unread = λ some. refl; unsent = λ unsent. refl }
+
+pub returns-clause-connects : goal.returns-clause-connects
+returns-clause-connects c s until j wanted none = record { wanted = wanted; goes_on = refl; limited = no_limit until j.deadline none; unread = λ some. absurd (some refl); unsent = λ unsent. refl }
+
+pub returns-clause-unsent : goal.returns-clause-unsent
+returns-clause-unsent c s until j r = by_it (request_of j) r.unsent
+  where
+    by_it : (request : List ℕ) → (([] ≡ request → ⊥) → true ≡ false) → request ≡ []
+    by_it [] unsent = refl
+    by_it (b ∷ bs) unsent = absurd (on_off (unsent (λ e. nothing b bs e)))
+      where
+        nothing : (b : ℕ) (bs : List ℕ) → [] ≡ b ∷ bs → ⊥
+        nothing b bs e = cc
+
+pub returns-clause-unread : goal.returns-clause-unread
+returns-clause-unread c s until j b more r = on_off (r.unread (λ none. some_not_none b more none))
+
+pub returns-clause-over : goal.returns-clause-over
+returns-clause-over c s until j got r = on_off r.goes_on
+
+pub returns-clause-unwanted : goal.returns-clause-unwanted
+returns-clause-unwanted c s until j got off r = off_on (sym off ∙ r.wanted)
+
+pub returns-clause-slept_over : goal.returns-clause-slept_over
+returns-clause-slept_over c s j got is r = let late = subst (λ (l : Option ℕ). AtMost (Some 6) l) is r.limited in omega (arith, late)

@@ -1,0 +1,55 @@
+//! The worked rows of rest. The functions do nothing.
+ghost use Rattle.std.specs.Prelude.{◌≡◌, ◌∷◌, [], ℕ, List, None, Option, Some, codes, false, true, is_some};
+ghost use Rattle.gateway_model.specs.Job.{JobValue};
+ghost use Rattle.gateway_model.specs.Known.{Shown};
+ghost use Rattle.gateway_model.specs.declared.entry.ReplyEntry.{ReplyEntry};
+ghost use Rattle.gateway_theory.specs.Values.{GatewayValue, shown};
+ghost use Rattle.http_pieces.specs.declared.framing.Framing.{Framing};
+ghost use Rattle.loop_model.specs.Asking.{request_of};
+ghost use Rattle.loop_model.specs.Rest.{RestsAsking, RestsClient, RestsTill};
+ghost use Rattle.loop_rows.specs.LoopRows.{IsQuietAt, IsWantedBy, lingering_client, loop_of, standing_client, standing_job};
+
+/// One to whom nothing is owed rests while nothing comes; one to whom something is owed while its stream takes no more.
+fn rests_of_clients()
+    ensures idle { (s : Shown) (until : Option ℕ) → IsQuietAt s → RestsClient s until (standing_client [] false true) }
+    ensures full { (s : Shown) (until : Option ℕ) (b : ℕ) (rest : List ℕ) → RestsClient s until (standing_client (b ∷ rest) true false) }
+    ensures unwritten { (s : Shown) (until : Option ℕ) (b : ℕ) (rest : List ℕ) → RestsClient s until (standing_client (b ∷ rest) false true) → ⊥ }
+    ensures untaken { (s : Shown) (until : Option ℕ) (e : ReplyEntry) (rest : List ReplyEntry)
+        → s.untaken 0 ≡ e ∷ rest → RestsClient s until (standing_client [] false true) → ⊥ }
+    ensures unread { (s : Shown) (until : Option ℕ) → IsQuietAt s → RestsClient s until (standing_client [] true true) → ⊥ }
+    ensures over { (s : Shown) (until : Option ℕ) → s.untaken 0 ≡ [] → s.is_ended 0 ≡ true → RestsClient s until (standing_client [] false true) → ⊥ }
+{}
+
+/// One that lingers rests till its limit, while nothing comes.
+fn rests_of_those_that_linger()
+    ensures rests { (s : Shown) → RestsClient s (Some 5) (lingering_client false false (Some 5)) }
+    ensures slept_over { (s : Shown) → RestsClient s (Some 6) (lingering_client false false (Some 5)) → ⊥ }
+    ensures forgotten { (s : Shown) → RestsClient s None (lingering_client false false (Some 5)) → ⊥ }
+    ensures for_ever { (s : Shown) (until : Option ℕ) → RestsClient s until (lingering_client false false None) → ⊥ }
+    ensures unread { (s : Shown) (until limit : Option ℕ) → RestsClient s until (lingering_client false true limit) → ⊥ }
+    ensures ended { (s : Shown) (until limit : Option ℕ) → RestsClient s until (lingering_client true false limit) → ⊥ }
+{}
+
+/// A job that is asked for rests while its stream has nothing to read, and takes no more where something is left to be
+/// written. One whose stream has not taken a byte is not read.
+fn rests_of_jobs()
+    ensures waits { (s : Shown) (until : Option ℕ) (j : JobValue)
+        → IsWantedBy s j → j.deadline ≡ None → RestsAsking s until (standing_job j (request_of j) false true false) }
+    ensures full { (s : Shown) (until : Option ℕ) (j : JobValue) → IsWantedBy s j → j.deadline ≡ None → RestsAsking s until (standing_job j [] false false false) }
+    ensures unsent { (s : Shown) (until : Option ℕ) (j : JobValue) → RestsAsking s until (standing_job j [] false true false) → request_of j ≡ [] }
+    ensures connects { (s : Shown) (until : Option ℕ) (j : JobValue) → IsWantedBy s j → j.deadline ≡ None → RestsAsking s until (standing_job j [] true false false) }
+    ensures unread { (s : Shown) (until : Option ℕ) (j : JobValue) (b : ℕ) (more : List ℕ) → RestsAsking s until (standing_job j (b ∷ more) true false false) → ⊥ }
+    ensures over { (s : Shown) (until : Option ℕ) (j : JobValue) (got : List ℕ) → RestsAsking s until (standing_job j got false false true) → ⊥ }
+    ensures unwanted { (s : Shown) (until : Option ℕ) (j : JobValue) (got : List ℕ)
+        → is_some (s.recorded j.call) ≡ false → RestsAsking s until (standing_job j got false false false) → ⊥ }
+    ensures slept_over { (s : Shown) (j : JobValue) (got : List ℕ) → j.deadline ≡ Some 5 → RestsAsking s (Some 6) (standing_job j got false false false) → ⊥ }
+{}
+
+/// No loop rests with a job and a place for it, or behind the deadline of a call.
+fn rests_of_loops()
+    ensures empty { (f : Framing) (v : GatewayValue) → (shown v).waiting ≡ [] → (shown v).deadline ≡ None → RestsTill None (loop_of f v [] [] [] []) }
+    ensures job { (f : Framing) (v : GatewayValue) (until : Option ℕ) (j : JobValue) (rest : List JobValue)
+        → (shown v).waiting ≡ j ∷ rest → RestsTill until (loop_of f v [] [] [] []) → ⊥ }
+    ensures slept_over { (f : Framing) (v : GatewayValue) → (shown v).deadline ≡ Some 5 → RestsTill (Some 6) (loop_of f v [] [] [] []) → ⊥ }
+    ensures forgotten { (f : Framing) (v : GatewayValue) → (shown v).deadline ≡ Some 5 → RestsTill None (loop_of f v [] [] [] []) → ⊥ }
+{}
