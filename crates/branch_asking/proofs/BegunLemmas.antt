@@ -13,7 +13,7 @@ use Rattle.branch_exchange.specs.declared.asked.Asked.TheVariants.{Lost}
 use Rattle.connect_codec.specs.Outcome.{outcome_of}
 use Rattle.connect_codec.specs.declared.answer.Outcome.{Outcome}
 use Rattle.loop_model.specs.Asking.{AskingValue, IsAnswered, IsFair, IsUnanswered, ended_value}
-use Rattle.branch_asking.specs.Asking.{noted_attempt}
+use Rattle.branch_asking.specs.Asking.{noted_attempt, timed_attempt, watched_attempt}
 use Rattle.wires.specs.declared.ready.Ready.{Ready}
 use Rattle.branch_exchange.specs.declared.exchange_end.Loss.{Loss}
 use Rattle.branch_exchange.specs.declared.exchange_end.ExchangeEnd.{ExchangeEnd}
@@ -109,6 +109,28 @@ begun_noted framing job addresses x ready end items b = record {
   ended = λ e is. let h = b.ended e is in record { prefix = h.prefix; whole = h.whole; unanswered = h.unanswered };
 }
 
+-- its stream is watched so
+pub begun_watched : (framing : Framing) (job : HandedJob) (addresses : AddressesValue) (x : AttemptValue) (watched : Option (ℕ × Bool)) (end : Option ExchangeEnd) (items : List (BackendValue × Bool))
+    → HasBegun (asking_state framing job addresses x end items) → HasBegun (asking_state framing job addresses (watched_attempt watched x) end items)
+begun_watched framing job addresses x watched end items b = record {
+  untouched = b.untouched;
+  unsent = b.unsent;
+  given = b.given;
+  asks = λ e. let a = b.asks e in record { sends = a.sends; reads = a.reads; goes_on = a.goes_on };
+  ended = λ e is. let h = b.ended e is in record { prefix = h.prefix; whole = h.whole; unanswered = h.unanswered };
+}
+
+-- it has to take a byte until then
+pub begun_timed : (framing : Framing) (job : HandedJob) (addresses : AddressesValue) (x : AttemptValue) (until : Option ℕ) (end : Option ExchangeEnd) (items : List (BackendValue × Bool))
+    → HasBegun (asking_state framing job addresses x end items) → HasBegun (asking_state framing job addresses (timed_attempt until x) end items)
+begun_timed framing job addresses x until end items b = record {
+  untouched = b.untouched;
+  unsent = b.unsent;
+  given = b.given;
+  asks = λ e. let a = b.asks e in record { sends = a.sends; reads = a.reads; goes_on = a.goes_on };
+  ended = λ e is. let h = b.ended e is in record { prefix = h.prefix; whole = h.whole; unanswered = h.unanswered };
+}
+
 -- where nothing was written or read since it is lost
 pub lost_ends : (framing : Framing) (request : List ℕ) (x y : AttemptValue) (loss : Loss) → y.got ≡ x.got → y.given ≡ x.given → Asks framing request x → HasEnded framing request (ends.Lost loss) y
 lost_ends framing request x y loss same none a = record {
@@ -118,10 +140,10 @@ lost_ends framing request x y loss same none a = record {
 }
 
 -- some more of the request was written
-pub sent_asks : (framing : Framing) (request : List ℕ) (e f : ExchangeValue) (s t : BackendValue) (connected : Bool) (n : ℕ) (waiting : List ℕ) → waiting ≡ e.left
+pub sent_asks : (framing : Framing) (request : List ℕ) (e f : ExchangeValue) (s t : BackendValue) (connected : Bool) (until : Option ℕ) (n : ℕ) (waiting : List ℕ) → waiting ≡ e.left
     → f ≡ exchange_value (drop n e.left) e.replies → t.stream ≡ stream_value s.stream.peer s.stream.given t.stream.got s.stream.ended → t.stream.got ≡ s.stream.got ++ take n waiting
-    → Asks framing request (attempt_value e (Some s) connected) → Asks framing request (attempt_value f (Some t) true)
-sent_asks framing request e f s t connected n waiting all left rest more a = record {
+    → Asks framing request (attempt_value e (Some s) connected until) → Asks framing request (attempt_value f (Some t) true until)
+sent_asks framing request e f s t connected until n waiting all left rest more a = record {
   sends =
       ap (λ (g : List ℕ). g ++ f.left) more ∙ ap (λ (w : List ℕ). (s.stream.got ++ take n w) ++ f.left) all ∙ ap (λ (v : ExchangeValue). (s.stream.got ++ take n e.left) ++ v.left) left
       ∙ append_assoc s.stream.got (take n e.left) (drop n e.left)
@@ -134,10 +156,10 @@ sent_asks framing request e f s t connected n waiting all left rest more a = rec
 }
 
 -- a piece was read, and no reply is whole yet
-pub read_asks : (framing : Framing) (request : List ℕ) (e f : ExchangeValue) (s t : BackendValue) (connected : Bool) (piece : List ℕ) → f.left ≡ e.left
+pub read_asks : (framing : Framing) (request : List ℕ) (e f : ExchangeValue) (s t : BackendValue) (connected : Bool) (until : Option ℕ) (piece : List ℕ) → f.left ≡ e.left
     → t.stream ≡ stream_value s.stream.peer t.stream.given s.stream.got t.stream.ended → t.stream.given ≡ s.stream.given ++ piece → t.stream.ended ≡ s.stream.ended → IsReading framing f.replies (s.stream.given ++ piece)
-    → Asks framing request (attempt_value e (Some s) connected) → Asks framing request (attempt_value f (Some t) true)
-read_asks framing request e f s t connected piece left rest more ended comes a = record {
+    → Asks framing request (attempt_value e (Some s) connected until) → Asks framing request (attempt_value f (Some t) true until)
+read_asks framing request e f s t connected until piece left rest more ended comes a = record {
   sends = ap (λ (l : List ℕ). t.stream.got ++ l) left ∙ ap (λ (v : StreamValue). v.got ++ e.left) rest ∙ a.sends;
   reads = subst (λ (g : List ℕ). IsReading framing f.replies g) (sym more) comes;
   goes_on = ended ∙ a.goes_on;
@@ -147,10 +169,10 @@ nothing_left : (got left : List ℕ) → got ++ left ≡ got → left ≡ []
 nothing_left got left e = nil_from_length left (omega (arith, length-append got left, ap (λ (l : List ℕ). length l) e))
 
 -- .. or it ended by that
-pub read_ends : (framing : Framing) (request : List ℕ) (e f : ExchangeValue) (s t : BackendValue) (connected : Bool) (piece : List ℕ) (end : ExchangeEnd)
+pub read_ends : (framing : Framing) (request : List ℕ) (e f : ExchangeValue) (s t : BackendValue) (connected : Bool) (until : Option ℕ) (piece : List ℕ) (end : ExchangeEnd)
     → t.stream ≡ stream_value s.stream.peer t.stream.given s.stream.got t.stream.ended → t.stream.given ≡ s.stream.given ++ piece → ComesTo framing e.left f.replies (s.stream.given ++ piece) (Some end)
-    → Asks framing request (attempt_value e (Some s) connected) → HasEnded framing request end (attempt_value f (Some t) true)
-read_ends framing request e f s t connected piece end rest more comes a = record {
+    → Asks framing request (attempt_value e (Some s) connected until) → HasEnded framing request end (attempt_value f (Some t) true until)
+read_ends framing request e f s t connected until piece end rest more comes a = record {
   prefix = (e.left, sym (ap (λ (v : StreamValue). v.got ++ e.left) rest ∙ a.sends));
   whole = λ reply is. whole_by end comes reply is;
   unanswered = λ loss is whole. unanswered_by end comes loss is (nothing_left s.stream.got e.left (a.sends ∙ sym whole ∙ ap (λ (v : StreamValue). v.got) rest));
@@ -178,7 +200,7 @@ pub begun_lost : (framing : Framing) (job : HandedJob) (addresses : AddressesVal
     → is_some end ≡ false → MatchOption loss (now ≡ ends.NoMemory) (λ l. now ≡ ends.Lost l)
     → HasBegun (asking_state framing job addresses x end items) → HasBegun (asking_state framing job addresses x (Some now) items)
 begun_lost framing job addresses x end now items loss off told b =
-    begun_ends framing job addresses x x end (Some now) now items off refl (prefix-refl x.given, prefix-refl x.got, refl) b.unsent (λ a. ends_by loss told a) b
+    begun_ends framing job addresses x x end (Some now) now items off refl (prefix-refl x.given, prefix-refl x.got, refl, prefix-refl x.reported) b.unsent (λ a. ends_by loss told a) b
   where
     ends_by : (loss : Option Loss) → MatchOption loss (now ≡ ends.NoMemory) (λ l. now ≡ ends.Lost l) → Asks framing (request_of job.job) x → HasEnded framing (request_of job.job) now x
     ends_by None is a = record {
@@ -189,7 +211,7 @@ begun_lost framing job addresses x end now items loss off told b =
     ends_by (Some l) is a = subst (λ (e : ExchangeEnd). HasEnded framing (request_of job.job) e x) (sym is) (lost_ends framing (request_of job.job) x x l refl refl a)
 
 pub grown_then : (x y z : AttemptValue) → HasGrown x y → HasGrown y z → HasGrown x z
-grown_then x y z p q = (prefix-trans x.given y.given z.given p.0 q.0, prefix-trans x.got y.got z.got p.1 q.1, q.2 ∙ p.2)
+grown_then x y z p q = (prefix-trans x.given y.given z.given p.0 q.0, prefix-trans x.got y.got z.got p.1 q.1, q.2 ∙ p.2, prefix-trans x.reported y.reported z.reported p.3 q.3)
 
 -- what was written of it begins its request
 pub begins_request : (x : AskingState) → HasBegun x → BeginsRequest (asked_for x)
@@ -260,18 +282,18 @@ begun_addresses framing job x y s end items are b = record { untouched = b.untou
 
 -- it goes over a stream to the next of its addresses
 module _ (framing : Framing) (job : HandedJob) (x y : AddressesValue) (s t : AttemptValue) (address : SocketAddr) (items later : List (BackendValue × Bool)) where
-  abbrev fresh : Bool → Bool → AttemptValue
-  fresh reads writes = attempt_value s.exchange (Some (backend_value (stream_value address [] [] false) reads writes)) false
+  abbrev fresh : Bool → Bool → Option (ℕ × Bool) → List Ready → AttemptValue
+  fresh reads writes watched reported = attempt_value s.exchange (Some (backend_value (stream_value address [] [] false) reads writes watched reported)) false None
 
   -- it comes behind those that were tried
   abbrev Follows : Type 0
   Follows =
       peers_of (map (λ (t : BackendValue × Bool). t.0.stream) later) (Some address) ≡ peers_of (map (λ (t : BackendValue × Bool). t.0.stream) items) s.peer ++ address ∷ []
 
-  fresh_begins : (reads writes : Bool) (end : Option ExchangeEnd) → is_some end ≡ false → next_of x ≡ address ∷ next_of y → y.found ≡ x.found → y.known ≡ x.known → Follows
+  fresh_begins : (reads writes : Bool) (watched : Option (ℕ × Bool)) (reported : List Ready) (end : Option ExchangeEnd) → is_some end ≡ false → next_of x ≡ address ∷ next_of y → y.found ≡ x.found → y.known ≡ x.known → Follows
       → IsUntouchedAttempt s → All IsUntouched (map (λ (u : BackendValue × Bool). u.0.stream) later)
-      → HasBegun (asking_state framing job x s end items) → HasBegun (asking_state framing job y (fresh reads writes) end later)
-  fresh_begins reads writes end off next same known follows touched untouched b = record {
+      → HasBegun (asking_state framing job x s end items) → HasBegun (asking_state framing job y (fresh reads writes watched reported) end later)
+  fresh_begins reads writes watched reported end off next same known follows touched untouched b = record {
     untouched = untouched;
     unsent = λ is. absurd (some_no_peer address is);
     given = taken_are job.job.address _ _ x y address next same known follows b.given;
@@ -287,12 +309,12 @@ module _ (framing : Framing) (job : HandedJob) (x y : AddressesValue) (s t : Att
       some_no_peer a e = cc
 
   pub begun_connects : (end : Option ExchangeEnd) (backend : BackendValue) → is_some end ≡ false → next_of x ≡ address ∷ next_of y
-      → y.found ≡ x.found → y.known ≡ x.known → Follows → IsUntouchedAttempt s → backend.stream ≡ stream_value address [] [] false → t ≡ attempt_value s.exchange (Some backend) false
+      → y.found ≡ x.found → y.known ≡ x.known → Follows → IsUntouchedAttempt s → backend.stream ≡ stream_value address [] [] false → t ≡ attempt_value s.exchange (Some backend) false None
       → All IsUntouched (map (λ (u : BackendValue × Bool). u.0.stream) later)
       → HasBegun (asking_state framing job x s end items) → HasBegun (asking_state framing job y t end later)
   begun_connects end backend off next same known follows touched is_stream is untouched b =
-      subst (λ (u : AttemptValue). HasBegun (asking_state framing job y u end later)) (sym (is ∙ ap (λ (r : StreamValue). attempt_value s.exchange (Some (backend_value r backend.reads backend.writes)) false) is_stream))
-      (fresh_begins backend.reads backend.writes end off next same known follows touched untouched b)
+      subst (λ (u : AttemptValue). HasBegun (asking_state framing job y u end later)) (sym (is ∙ ap (λ (r : StreamValue). attempt_value s.exchange (Some (backend_value r backend.reads backend.writes backend.watched backend.reported)) false None) is_stream))
+      (fresh_begins backend.reads backend.writes backend.watched backend.reported end off next same known follows touched untouched b)
 
 -- the stream before is noted
 pub noted_untouched : (items later : List (BackendValue × Bool)) (before : BackendValue) (s : AttemptValue) → later ≡ items ++ (before, true) ∷ [] → HadStream before.stream s
@@ -306,14 +328,14 @@ noted_untouched items later before s is had touched all =
 
 pub asks_grown : (framing : Framing) (job : HandedJob) (a : AddressesValue) (x y : AttemptValue) (end now : Option ExchangeEnd) (items : List (BackendValue × Bool)) → HasGrown x y
     → AsksOn (asked_for (asking_state framing job a x end items)) (asked_for (asking_state framing job a y now items))
-asks_grown framing job a x y end now items g = record { job = refl; found = prefix-refl a.found; streams = inl record { tried = refl; peer = inr g.2; given = g.0; got = g.1 } }
+asks_grown framing job a x y end now items g = record { job = refl; found = prefix-refl a.found; streams = inl record { tried = refl; peer = inr g.2; given = g.0; got = g.1; reported = inr g.3 } }
 
 pub asks_found : (framing : Framing) (job : HandedJob) (a b : AddressesValue) (x : AttemptValue) (end : Option ExchangeEnd) (items : List (BackendValue × Bool)) → IsPrefixOf a.found b.found
     → AsksOn (asked_for (asking_state framing job a x end items)) (asked_for (asking_state framing job b x end items))
 asks_found framing job a b x end items more = record {
   job = refl;
   found = more;
-  streams = inl record { tried = refl; peer = inr refl; given = prefix-refl x.given; got = prefix-refl x.got };
+  streams = inl record { tried = refl; peer = inr refl; given = prefix-refl x.given; got = prefix-refl x.got; reported = inr (prefix-refl x.reported) };
 }
 
 module _ (framing : Framing) (job : HandedJob) (a b : AddressesValue) (x y : AttemptValue) (end : Option ExchangeEnd) (items : List (BackendValue × Bool)) where
@@ -343,5 +365,6 @@ module _ (framing : Framing) (job : HandedJob) (a b : AddressesValue) (x y : Att
       peer = inl alone;
       given = (y.given, sym (ap (λ (l : List ℕ). l ++ y.given) fresh.1));
       got = (y.got, sym (ap (λ (l : List ℕ). l ++ y.got) fresh.0));
+      reported = inl alone;
     };
   }

@@ -1,5 +1,5 @@
 -- A job that is asked for: what was written and read for it, and how that ends.
-use Rattle.std.specs.Prelude.{◌≡◌, ℕ, Bool, true, false, ◌&&◌, ◌||◌, All, List, [], ◌∷◌, ◌++◌, map, Option, Some, None, option_map, is_some}
+use Rattle.std.specs.Prelude.{◌≡◌, ℕ, Bool, true, false, ◌&&◌, ◌||◌, All, List, [], ◌∷◌, ◌++◌, map, Option, Some, None, option_map, option_and_then, is_some, if◌then◌else◌}
 use Rattle.std.specs.Option.{option_map_or}
 use Rattle.std.specs.declared.net.socket_addr.SocketAddr.{SocketAddr}
 use Rattle.http_pieces.specs.declared.framing.Framing.{Framing}
@@ -19,14 +19,19 @@ use Rattle.branch_asking.specs.declared.attempt.Step.TheVariants.{Waits, More, R
 
 -- ---- an exchange over a stream
 
--- a stream, and by all that was reported of it and answered: whether a read may bring something, and whether a write may be taken
+-- a stream, and by all that was reported of it and answered: whether a read may bring something, and whether a write may be taken; and by
+-- what token it is watched, and whether for room to write too
 pub record BackendValue : Type 0 where
   pub stream : StreamValue
   pub reads : Bool
   pub writes : Bool
+  pub watched : Option (ℕ × Bool)
+  -- all that was reported of it
+  pub reported : List Ready
 
-abbrev pub backend_value : StreamValue → Bool → Bool → BackendValue
-backend_value stream reads writes = record { stream = stream; reads = reads; writes = writes }
+abbrev pub backend_value : StreamValue → Bool → Bool → Option (ℕ × Bool) → List Ready → BackendValue
+backend_value stream reads writes watched reported =
+    record { stream = stream; reads = reads; writes = writes; watched = watched; reported = reported }
 
 -- what is left to be written of its request and the reader of its reply, and all that was read from its stream and written to it; nothing,
 -- while it has none
@@ -38,12 +43,16 @@ pub record AttemptValue : Type 0 where
   pub peer : Option SocketAddr
   pub ended : Bool
   pub connected : Bool
-  -- whether a read of it may bring something, and whether a write may be taken
+  -- whether a read of it may bring something, and whether a write may be taken; by what token it is watched; and all that was reported
   pub reads : Bool
   pub writes : Bool
+  pub watched : Option (ℕ × Bool)
+  pub reported : List Ready
+  -- until when it has to take a byte, where another address follows
+  pub until : Option ℕ
 
-abbrev pub attempt_value : ExchangeValue → Option BackendValue → Bool → AttemptValue
-attempt_value exchange backend connected = record {
+abbrev pub attempt_value : ExchangeValue → Option BackendValue → Bool → Option ℕ → AttemptValue
+attempt_value exchange backend connected until = record {
   exchange = exchange;
   given = option_map_or (λ (b : BackendValue). b.stream.given) backend [];
   got = option_map_or (λ (b : BackendValue). b.stream.got) backend [];
@@ -52,7 +61,14 @@ attempt_value exchange backend connected = record {
   connected = connected;
   reads = option_map_or (λ (b : BackendValue). b.reads) backend false;
   writes = option_map_or (λ (b : BackendValue). b.writes) backend false;
+  watched = option_and_then (λ (b : BackendValue). b.watched) backend;
+  reported = option_map_or (λ (b : BackendValue). b.reported) backend [];
+  until = until;
 }
+
+-- that limit, until it took a byte
+abbrev pub until_of : AttemptValue → Option ℕ
+until_of x = if x.connected then None else x.until
 
 -- this request is being written, or its reply, whose body may be framed so, is being read and is not whole yet; and no read found the end
 -- of its stream, or failed
@@ -71,9 +87,17 @@ pub record HasEnded (framing : Framing) (request : List ℕ) (end : ExchangeEnd)
 -- the report became known of its stream, if it has one
 abbrev pub noted_attempt : Ready → AttemptValue → AttemptValue
 noted_attempt ready x = record x {
+  reported = if is_some x.peer then x.reported ++ ready ∷ [] else x.reported;
   reads = is_some x.peer && (x.reads || is_to_read ready);
   writes = is_some x.peer && (x.writes || ready.writable);
 }
+
+-- its stream is watched so from now on; or has to take a byte until then
+abbrev pub watched_attempt : Option (ℕ × Bool) → AttemptValue → AttemptValue
+watched_attempt watched x = record x { watched = watched }
+
+abbrev pub timed_attempt : Option ℕ → AttemptValue → AttemptValue
+timed_attempt until x = record x { until = until }
 
 -- nothing was written or read
 abbrev pub IsUntouchedAttempt : AttemptValue → Type 0
@@ -87,9 +111,9 @@ IsUnsent x = x.peer ≡ None → x.got ≡ []
 abbrev pub HadStream : StreamValue → AttemptValue → Type 0
 HadStream s x = (s.given ≡ x.given) × (s.got ≡ x.got) × (x.peer ≡ Some s.peer) × (s.ended ≡ x.ended)
 
--- more may have been read from its stream, and written to it
+-- more may have been read from its stream, written to it, and reported of it
 abbrev pub HasGrown : AttemptValue → AttemptValue → Type 0
-HasGrown x y = IsPrefixOf x.given y.given × IsPrefixOf x.got y.got × (y.peer ≡ x.peer)
+HasGrown x y = IsPrefixOf x.given y.given × IsPrefixOf x.got y.got × (y.peer ≡ x.peer) × IsPrefixOf x.reported y.reported
 
 -- it goes on; or its address accepts no connection; or it has ended so
 abbrev pub StepsTo : Framing → List ℕ → Step → AttemptValue → Type 0
@@ -134,6 +158,9 @@ asked_for x = record {
   got = x.attempt.got;
   reads = x.attempt.reads;
   writes = x.attempt.writes;
+  watched = x.attempt.watched;
+  reported = x.attempt.reported;
+  until = until_of x.attempt;
   over = is_some x.end;
 }
 

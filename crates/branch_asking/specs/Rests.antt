@@ -1,5 +1,5 @@
 -- Whether nothing is left to be done for a job that is asked for.
-use Rattle.std.specs.Prelude.{Bool, true, false, ◌&&◌, ◌||◌, not, nat_le, List, [], ◌∷◌, ℕ, length, is_some}
+use Rattle.std.specs.Prelude.{Bool, true, false, ◌&&◌, ◌||◌, not, nat_le, if◌then◌else◌, List, [], ◌∷◌, ℕ, length, is_some, Option, Some, None}
 use Rattle.loop_model.specs.Asking.{AskingValue, request_of}
 use Rattle.branch_asking.specs.Asking.{AskingState, AttemptValue, asked_for}
 
@@ -7,14 +7,24 @@ abbrev pub is_nil : List ℕ → Bool
 is_nil [] = true
 is_nil (byte ∷ bytes) = false
 
--- its stream has nothing to read, or has not taken a byte; and it takes no more where some of the request is left
+-- its stream is watched; it has nothing to read, or has not taken a byte; and where the request was not sent it is watched for room to
+-- write, and takes no more
+abbrev pub rests_watched : Bool → AttemptValue → Option (ℕ × Bool) → Bool
+rests_watched sent x None = false
+rests_watched sent x (Some w) = (not x.reads || not x.connected) && (sent || (w.1 && not x.writes))
+
+-- .. while it has one; nothing is to be read or written else
+abbrev pub rests_by : Bool → AttemptValue → Bool
+rests_by sent x = if is_some x.peer then rests_watched sent x x.watched else not x.reads && not x.writes
+
+-- where the request was sent if nothing is left of it
 abbrev pub rests_over : AttemptValue → Bool
-rests_over x = (not x.reads || not x.connected) && (is_nil x.exchange.left || not x.writes)
+rests_over x = rests_by (is_nil x.exchange.left) x
 
 -- as many bytes were written as its request has
 abbrev pub is_sent : AskingValue → Bool
 is_sent x = nat_le (length (request_of x.job)) (length x.got)
 
--- the same, where it has not ended
+-- it has not ended, and its attempt rests
 abbrev pub rests_asked : AskingState → Bool
-rests_asked x = not (is_some x.end) && ((not x.attempt.reads || not x.attempt.connected) && (is_sent (asked_for x) || not x.attempt.writes))
+rests_asked x = not (is_some x.end) && rests_by (is_sent (asked_for x)) x.attempt

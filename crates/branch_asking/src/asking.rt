@@ -5,7 +5,7 @@ ghost use Rattle.branch_causes.specs.Causes.{cause_of_end, status_of_end};
 ghost use Rattle.branch_causes.specs.declared.cause.Cause.TheVariants.{NotWanted};
 ghost use Rattle.branch_exchange.specs.Outcomes.{asked_of, outcome_of_asked};
 ghost use Rattle.branch_asking.specs.Addresses.{HasParsed, next_of};
-ghost use Rattle.branch_asking.specs.Asking.{Finds, NotesStream, asked_for, noted_attempt};
+ghost use Rattle.branch_asking.specs.Asking.{Finds, NotesStream, asked_for, noted_attempt, timed_attempt, until_of, watched_attempt};
 ghost use Rattle.branch_asking.specs.Rests.{rests_asked};
 ghost use Rattle.loop_model.specs.Asking.{BeginsRequest, IsFair, ended_value, request_of};
 ghost use Rattle.loop_model.specs.Whole.{AsksOn};
@@ -153,7 +153,8 @@ impl<W: Wire> Asking<W> {
 
     /// Watches its stream by that token. False where it has none, or can't.
     pub fn watch<N: Network<W>>(&mut self, net: &mut N, token: usize) -> bool
-        ensures same { self.new ≡ self.old }
+        ensures noted { self.new ≡ record self.old { attempt = watched_attempt self.new.attempt.watched self.old.attempt } }
+        ensures on { AsksOn (asked_for self.old) (asked_for self.new) }
         ensures told { N.told net.new ≡ N.told net.old }
     {
         self.attempt.watch(net, token)
@@ -168,8 +169,31 @@ impl<W: Wire> Asking<W> {
         self.attempt.unsent_law();
     }
 
-    /// Whether it has not ended, and nothing is left to be done over its stream: nothing may be read, or it has not
-    /// taken a byte; and where its request was not written whole no write is taken.
+    /// Until when its stream has to take a byte, where another address follows. None once it took one.
+    pub fn until(&self) -> Option<u64>
+        ensures { result ≡ until_of self.now.attempt }
+    {
+        self.attempt.until()
+    }
+
+    /// Its stream has to take a byte until then, where another address follows.
+    pub fn set_until(&mut self, until: Option<u64>)
+        ensures noted { self.new ≡ record self.old { attempt = timed_attempt until self.old.attempt } }
+        ensures on { AsksOn (asked_for self.old) (asked_for self.new) }
+    {
+        self.attempt.set_until(until);
+    }
+
+    /// By what token its stream is watched, and whether for room to write too.
+    pub fn watched(&self) -> Option<(usize, bool)>
+        ensures { result ≡ self.now.attempt.watched }
+    {
+        self.attempt.watched()
+    }
+
+    /// Whether it has not ended, and nothing is left to be done over its stream, which is watched: nothing may be read,
+    /// or it has not taken a byte; and where its request was not written whole it is watched for room to write, and
+    /// takes no more.
     pub fn rests(&self) -> bool
         ensures { result ≡ rests_asked self.now }
     {

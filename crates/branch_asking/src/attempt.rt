@@ -1,6 +1,6 @@
 ghost use Rattle.std.specs.Prelude.{◌≡◌, [], None, Some, IfSome, IsFalse, false};
 ghost use Rattle.loop_model.specs.Asking.{IsUntouched};
-ghost use Rattle.branch_asking.specs.Asking.{Asks, HadStream, HasGrown, IsUnsent, IsUntouchedAttempt, Steps, attempt_value, noted_attempt};
+ghost use Rattle.branch_asking.specs.Asking.{Asks, HadStream, HasGrown, IsUnsent, IsUntouchedAttempt, Steps, attempt_value, noted_attempt, until_of};
 ghost use Rattle.branch_asking.specs.Rests.{rests_over};
 
 use crate::backend::Backend;
@@ -24,6 +24,8 @@ pub struct Attempt<W: Wire> {
     stream: Option<Backend<W>>,
     // whether its stream took a byte
     is_connected: bool,
+    // until when it has to take one, where another address follows
+    until: Option<u64>,
 }
 
 impl<W: Wire> Model for Attempt<W> {
@@ -32,10 +34,10 @@ impl<W: Wire> Model for Attempt<W> {
 
     ghost Value = { AttemptValue };
 
-    ghost view = { λ a. attempt_value a.exchange a.stream a.is_connected };
+    ghost view = { λ a. attempt_value a.exchange a.stream a.is_connected a.until };
 
     ghost invariant = { λ a. a.is_connected ≡ false
-        → IsUntouchedAttempt (attempt_value a.exchange a.stream a.is_connected) };
+        → IsUntouchedAttempt (attempt_value a.exchange a.stream a.is_connected a.until) };
 }
 
 /// What a step of an exchange came to.
@@ -62,12 +64,13 @@ impl<W: Wire> Attempt<W> {
             exchange: Exchange::new(alloc, framing, request),
             stream: None,
             is_connected: false,
+            until: None,
         }
     }
 
     /// Watches its stream by that token. False where it has none, or can't.
     pub(crate) fn watch<N: Network<W>>(&mut self, net: &mut N, token: usize) -> bool
-        ensures same { self.new ≡ self.old }
+        ensures same { self.new ≡ record self.old { watched = self.new.watched } }
         ensures told { N.told net.new ≡ N.told net.old }
     {
         let writes = !self.exchange.is_sent();
@@ -99,6 +102,20 @@ impl<W: Wire> Attempt<W> {
         self.stream.is_some() && !self.is_connected
     }
 
+    /// Until when its stream has to take a byte, where another address follows. None once it took one.
+    pub(crate) fn until(&self) -> Option<u64>
+        ensures { result ≡ until_of self.now }
+    {
+        if self.is_connected { None } else { self.until }
+    }
+
+    /// Its stream has to take a byte until then, where another address follows.
+    pub(crate) fn set_until(&mut self, until: Option<u64>)
+        ensures { self.new ≡ record self.old { until = until } }
+    {
+        self.until = until;
+    }
+
     /// While it has no stream, nothing was written; and nothing was while its stream has not taken a byte. It does
     /// nothing.
     pub(crate) fn unsent_law(&self)
@@ -108,16 +125,26 @@ impl<W: Wire> Attempt<W> {
         let _ = &self.stream;
     }
 
-    /// Whether nothing is left to be done over its stream: nothing may be read, or it has not taken a byte; and where
-    /// some of the request is left no write is taken.
+    /// By what token its stream is watched, and whether for room to write too.
+    pub(crate) fn watched(&self) -> Option<(usize, bool)>
+        ensures { result ≡ self.now.watched }
+    {
+        self.stream.as_ref()?.watched()
+    }
+
+    /// Whether nothing is left to be done over its stream, which is watched: nothing may be read, or it has not taken a
+    /// byte; and where some of the request is left it is watched for room to write, and takes no more.
     pub(crate) fn rests(&self) -> bool
         ensures { result ≡ rests_over self.now }
     {
         let Some(stream) = &self.stream else {
             return true;
         };
+        let Some((_token, for_writes)) = stream.watched() else {
+            return false;
+        };
         (!stream.may_read() || !self.is_connected)
-            && (self.exchange.is_sent() || !stream.may_write())
+            && (self.exchange.is_sent() || (for_writes && !stream.may_write()))
     }
 
     /// How many bytes of its request are left to be written.
@@ -219,12 +246,13 @@ impl<W: Wire + Drop> Attempt<W> {
     /// was one.
     pub(crate) fn connect(&mut self, stream: Backend<W>) -> Option<Backend<W>>
         requires { IsUntouched stream.stream }
-        ensures fresh { self.new ≡ attempt_value self.old.exchange (Some stream) false }
+        ensures fresh { self.new ≡ attempt_value self.old.exchange (Some stream) false None }
         ensures before { IfSome result (λ before. HadStream before.stream self.old) }
         ensures first { result ≡ None → self.old.peer ≡ None }
         ensures untouched { result ≡ None → IsUntouchedAttempt self.old }
     {
         self.is_connected = false;
+        self.until = None;
         mem::replace(&mut self.stream, Some(stream))
     }
 }

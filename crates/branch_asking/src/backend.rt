@@ -1,4 +1,4 @@
-ghost use Rattle.std.specs.Prelude.{◌≡◌, ◌||◌, [], false};
+ghost use Rattle.std.specs.Prelude.{◌≡◌, ◌||◌, ◌++◌, ◌∷◌, [], false};
 ghost use Rattle.branch_asking.specs.Asking.{backend_value};
 ghost use Rattle.loop_model.specs.Asking.{stream_value};
 ghost use Rattle.wires.specs.Wires.{Ends, Gives, Takes, is_to_read};
@@ -22,7 +22,7 @@ impl<W: Wire> Model for Backend<W> {
 
     ghost Value = { BackendValue };
 
-    ghost view = { λ b. backend_value (stream_value b.peer (W.given b.wire) (W.got b.wire) (W.ended b.wire)) (W.reads b.wire) (W.writes b.wire) };
+    ghost view = { λ b. backend_value (stream_value b.peer (W.given b.wire) (W.got b.wire) (W.ended b.wire)) (W.reads b.wire) (W.writes b.wire) (W.watched b.wire) (W.reported b.wire) };
 }
 
 impl<W: Wire> Backend<W> {
@@ -43,7 +43,7 @@ impl<W: Wire> Backend<W> {
 
     /// Watches it by that token, for room to write too with `writes`. False where it can't.
     pub(crate) fn watch<N: Network<W>>(&mut self, net: &mut N, token: usize, writes: bool) -> bool
-        ensures same { self.new ≡ self.old }
+        ensures same { self.new ≡ record self.old { watched = self.new.watched } }
         ensures told { N.told net.new ≡ N.told net.old }
     {
         net.watch(&mut self.wire, token, writes)
@@ -51,7 +51,7 @@ impl<W: Wire> Backend<W> {
 
     /// Something became possible.
     pub(crate) fn report(&mut self, ready: Ready)
-        ensures { self.new ≡ backend_value self.old.stream (self.old.reads || is_to_read ready) (self.old.writes || ready.writable) }
+        ensures { self.new ≡ backend_value self.old.stream (self.old.reads || is_to_read ready) (self.old.writes || ready.writable) self.old.watched (self.old.reported ++ ready ∷ []) }
     {
         self.wire.report(ready);
     }
@@ -70,6 +70,13 @@ impl<W: Wire> Backend<W> {
         self.wire.may_write()
     }
 
+    /// By what token it is watched, and whether for room to write too.
+    pub(crate) fn watched(&self) -> Option<(usize, bool)>
+        ensures { result ≡ self.now.watched }
+    {
+        self.wire.watched()
+    }
+
     pub(crate) fn into_wire(self) -> W {
         let Backend { wire, peer: _ } = self;
         wire
@@ -80,6 +87,7 @@ impl<W: Wire> Backend<W> {
         ensures given { Gives self.old.stream.given self.new.stream.given piece.new result }
         ensures ended { Ends self.old.stream.ended self.new.stream.ended result }
         ensures rest { self.new.stream ≡ stream_value self.old.stream.peer self.new.stream.given self.old.stream.got self.new.stream.ended }
+        ensures reported { self.new.reported ≡ self.old.reported }
     {
         self.wire.read(piece)
     }
@@ -88,6 +96,7 @@ impl<W: Wire> Backend<W> {
     pub(crate) fn write(&mut self, outbox: &Outbox) -> Sent
         ensures got { Takes self.old.stream.got self.new.stream.got outbox.now result }
         ensures rest { self.new.stream ≡ stream_value self.old.stream.peer self.old.stream.given self.new.stream.got self.old.stream.ended }
+        ensures reported { self.new.reported ≡ self.old.reported }
     {
         self.wire.write(outbox)
     }

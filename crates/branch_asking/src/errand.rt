@@ -1,6 +1,5 @@
-ghost use Rattle.std.specs.Prelude.{◌≡◌, ◌↔◌, IsFalse};
+ghost use Rattle.std.specs.Prelude.{◌≡◌};
 
-use std::mem;
 use wires::Ready;
 
 /// What a loop notes of a job that it asks for. No law speaks of it.
@@ -12,12 +11,8 @@ pub struct Errand {
     pub began: u64,
     /// Whether its backend is known to have ended its stream.
     pub has_ended: bool,
-    /// Until when it goes on, by its timer, if it has one.
-    pub until: Option<u64>,
     /// Its number among those that wait for its name, if it does.
     pub waits: Option<usize>,
-    /// Whether it is in the line of those that are to be served.
-    pub is_in_line: bool,
 }
 
 impl Errand {
@@ -27,31 +22,13 @@ impl Errand {
             client,
             began,
             has_ended: false,
-            until: None,
             waits: None,
-            is_in_line: false,
         }
     }
 
     /// Something became possible; whether that may be told of another's stream, too, that had the token before.
     pub(crate) fn note_ready(&mut self, ready: Ready, is_shared: bool) {
         self.has_ended |= ready.read_closed && !is_shared;
-    }
-
-    /// Whether it is in the line from now on. Answers whether it was.
-    pub fn set_in_line(&mut self, is_in_line: bool) -> bool
-        ensures was { result ≡ self.old.is_in_line }
-        ensures rest { self.new ≡ record self.old { is_in_line = is_in_line } }
-    {
-        mem::replace(&mut self.is_in_line, is_in_line)
-    }
-
-    /// It goes on until then. Answers whether that is new.
-    pub fn set_until(&mut self, until: Option<u64>) -> bool
-        ensures new { IsFalse result ↔ (self.old.until ≡ until) }
-        ensures rest { self.new ≡ record self.old { until = until } }
-    {
-        mem::replace(&mut self.until, until) != until
     }
 
     /// It waits for its name under this number, or no more.

@@ -176,7 +176,7 @@ impl<M: NetHost> Looping<M> {
     }
 
     /// When a turn is due though the loop is not woken.
-    fn next_turn(&self) -> NextTurn {
+    fn next_turn(&mut self) -> NextTurn {
         // a wake-up may have come while it was looked at what came meanwhile
         let is_cut = self.side.is_cut.load(Ordering::SeqCst);
         if self.mail.is_empty() && !self.is_to_end_calls() && !is_cut && !self.has_idle {

@@ -12,7 +12,7 @@ asks_same : (x : AskingValue) → AsksOn x x
 asks_same x = record {
   job = refl;
   found = prefix-refl x.found;
-  streams = inl record { tried = refl; peer = inr refl; given = prefix-refl x.given; got = prefix-refl x.got };
+  streams = inl record { tried = refl; peer = inr refl; given = prefix-refl x.given; got = prefix-refl x.got; reported = inr (prefix-refl x.reported) };
 }
 
 module _ (x y z : AskingValue) where
@@ -20,12 +20,23 @@ module _ (x y z : AskingValue) where
   same_peer : {o : Option SocketAddr} → (x.peer ≡ None) ⊎ (y.peer ≡ x.peer) → (y.peer ≡ None) ⊎ (o ≡ y.peer) → (x.peer ≡ None) ⊎ (o ≡ x.peer)
   same_peer p q = search arith
 
+  -- where the one had no stream, or the next has none
+  reports_on : KeepsStream x y → KeepsStream y z → (x.peer ≡ None) ⊎ IsPrefixOf x.reported z.reported
+  reports_on k l =
+      ⊎_elim inl
+      (λ (p : IsPrefixOf x.reported y.reported). ⊎_elim
+      (λ (none : y.peer ≡ None). ⊎_elim inl (λ (same : y.peer ≡ x.peer). inl (sym same ∙ none)) k.peer)
+      (λ (q : IsPrefixOf y.reported z.reported). inr (prefix-trans x.reported y.reported z.reported p q))
+      l.reported)
+      k.reported
+
   keeps_keeps : KeepsStream x y → KeepsStream y z → KeepsStream x z
   keeps_keeps k l = record {
     tried = l.tried ∙ k.tried;
     peer = same_peer k.peer l.peer;
     given = prefix-trans x.given y.given z.given k.given l.given;
     got = prefix-trans x.got y.got z.got k.got l.got;
+    reported = reports_on k l;
   }
 
   keeps_gives : KeepsStream x y → GivesUpStream y z → GivesUpStream x z

@@ -1,5 +1,5 @@
 -- What only grows.
-use Rattle.gateway_loop.proofs.Words.{◌≡◌, ℕ, List, [], ◌∷◌, ◌++◌, map, Option, None, Some, refl, sym, ap, ◌∙◌, subst, append_assoc, append-nil, inl, inr, ⊎_elim, Bool, false, arith, ◌+◌, count_by, option_map_or, Contains, cases_eq, Contains-append_left, Contains-push, map-append, sum_by-cons, entries_from, Outcome, HandedJob, JobValue, IsPrefixOf, ClientValue, client_value, LoopValue, at, Continues, Grows, Onward, lingering, prefix-refl, prefix-trans}
+use Rattle.gateway_loop.proofs.Words.{Ready, ◌≡◌, ℕ, List, [], ◌∷◌, ◌++◌, map, Option, None, Some, refl, sym, ap, ◌∙◌, subst, append_assoc, append-nil, inl, inr, ⊎_elim, Bool, false, arith, ◌+◌, count_by, option_map_or, Contains, cases_eq, Contains-append_left, Contains-push, map-append, sum_by-cons, entries_from, Outcome, HandedJob, JobValue, IsPrefixOf, ClientValue, client_value, LoopValue, at, Continues, Grows, Onward, lingering, prefix-refl, prefix-trans}
 use Rattle.std.proofs.lemmas.Bool.Decides.{nat_tests}
 use Rattle.gateway_loop.proofs.Places.{Put}
 
@@ -10,7 +10,7 @@ pub begins_is : {A : Type 0} (xs ys : List A) → ys ≡ xs → IsPrefixOf xs ys
 begins_is {A} xs ys is = subst (λ (l : List A). IsPrefixOf xs l) (sym is) (prefix-refl xs)
 
 pub grows_same : (x : ClientValue) → Grows x x
-grows_same x = record { conn = refl; given = prefix-refl x.given; got = prefix-refl x.got }
+grows_same x = record { conn = refl; given = prefix-refl x.given; got = prefix-refl x.got; reported = prefix-refl x.reported }
 
 pub grows_then : (x y z : ClientValue) → Grows x y → Grows y z → Grows x z
 grows_then x y z a b = search (arith, nat_tests, prefix-trans)
@@ -123,18 +123,20 @@ module _ (v w : LoopValue) (plans : w.core.plans ≡ v.core.plans) (told : w.tol
 
 -- ---- a client's own
 
-pub grows_by : {reads writes reads' writes' : Bool} {until : Option ℕ} → (conn : ℕ) (p q e f : Bool) (given given' got got' waiting left more sent : List ℕ) → given' ≡ given ++ more → got' ≡ got ++ sent
-    → Grows (client_value conn p given got e waiting reads writes until) (client_value conn q given' got' f left reads' writes' until)
-grows_by conn p q e f given given' got got' waiting left more sent reads writes = record { conn = refl; given = (more, reads); got = (sent, writes) }
+pub grows_by : {reads writes reads' writes' : Bool} {watched watched' : Option (ℕ × Bool)} {reported reported' : List Ready} {until : Option ℕ} → (conn : ℕ) (p q e f : Bool) (given given' got got' waiting left more sent : List ℕ) → given' ≡ given ++ more → got' ≡ got ++ sent → reported' ≡ reported
+    → Grows (client_value conn p given got e waiting reads writes watched reported until) (client_value conn q given' got' f left reads' writes' watched' reported' until)
+grows_by conn p q e f given given' got got' waiting left more sent reads writes none =
+    record { conn = refl; given = (more, reads); got = (sent, writes); reported = ([], none ∙ sym (append-nil _)) }
 
 pub no_more : (xs ys : List ℕ) → ys ≡ xs → ys ≡ xs ++ []
 no_more xs ys same = same ∙ sym (append-nil xs)
 
 pub grows_lingering : (x : ClientValue) (until : ℕ) → Grows x (lingering until x)
-grows_lingering x until = record { conn = refl; given = prefix-refl x.given; got = prefix-refl x.got }
+grows_lingering x until = record { conn = refl; given = prefix-refl x.given; got = prefix-refl x.got; reported = prefix-refl x.reported }
 
-pub grows_moved : (x : ClientValue) (reads writes : Bool) → Grows x (record x { reads = reads; writes = writes })
-grows_moved x reads writes = record { conn = refl; given = prefix-refl x.given; got = prefix-refl x.got }
+pub grows_moved : (x : ClientValue) (reads writes : Bool) (watched : Option (ℕ × Bool)) (reported : List Ready) → IsPrefixOf x.reported reported
+    → Grows x (record x { reads = reads; writes = writes; watched = watched; reported = reported })
+grows_moved x reads writes watched reported more = record { conn = refl; given = prefix-refl x.given; got = prefix-refl x.got; reported = more }
 
 -- ---- what logs tell
 

@@ -9,3 +9,4 @@ pub mod ServingLemmas
 pub mod GrowLemmas
 pub mod AskLemmas
 pub mod RestLemmas
+pub mod TellLemmas

@@ -1,16 +1,17 @@
 -- What it tells that a test answers true.
 use Rattle.gateway_loop.proofs.Words.{◌≡◌, ℕ, zero, suc, ◌+◌, ◌≤◌, Bool, true, false, ◌||◌, option_map, List, [], ◌∷◌, ◌++◌, map, Option, None, Some, refl, sym, ap, ◌∙◌, subst, arith, inl, inr, length, append-nil, count_by, sum_by-cons, is_some, not, slice_index_or, ◌==◌, entries_from, ClientValue, AskingValue, AskingState, GatewayValue, WholeLoop, asked_at, asked_for, shown, IsPrefixOf, request_of}
-use Rattle.std.proofs.lemmas.Bool.{leb-true, ltb-false}
+use Rattle.std.proofs.lemmas.Bool.{eqb-true, leb-true, ltb-false}
 use Rattle.std.proofs.lemmas.Bool.Decides.{nat_tests}
 use Rattle.std.proofs.lemmas.List.{length-append, nil_from_length}
-use Rattle.std.specs.Prelude.{nat_le, nat_lt, ◌&&◌, if◌then◌else◌}
+use Rattle.std.specs.Prelude.{nat_le, nat_lt, ◌&&◌, ◌*◌, ◌/◌, ◌%◌, if◌then◌else◌}
 use Rattle.std.specs.List.{list_all}
-use Rattle.branch_asking.specs.Rests.{is_sent}
+use Rattle.branch_asking.specs.Asking.{until_of}
+use Rattle.branch_asking.specs.Rests.{is_sent, rests_watched}
 use Rattle.gateway_model.specs.Known.{Shown}
-use Rattle.loop_model.specs.Rest.{AtMost, IsWritten, RestsAsking, RestsClient}
+use Rattle.loop_model.specs.Rest.{AtMost, IsWatched, IsWritten, RestsAsking, RestsClient}
 use Rattle.gateway_loop.proofs.AskLemmas.{HasUntouched, shown_at}
 use Rattle.gateway_loop.specs.NextTurns.{due_by}
-use Rattle.gateway_loop.specs.Rests.{WaitsForPlace, is_at_most, is_written, rests_asking, rests_client}
+use Rattle.gateway_loop.specs.Rests.{WaitsForPlace, is_at_most, is_clients, is_exchanges, is_watched, is_watched_as, is_written, rests_asking, rests_client, waits_client}
 use Rattle.gateway_loop.specs.declared.next_turn.NextTurn.TheVariants.{AtOnce, At, Never}
 
 both_true : (a b : Bool) → (a && b) ≡ true → (a ≡ true) × (b ≡ true)
@@ -65,12 +66,26 @@ written_all s x h = let b = both_true _ _ h in record { nothing_waits = none_lon
 all_written : (s : Shown) (x : ClientValue) → IsWritten s x → is_written s x ≡ true
 all_written s x w = rw (w.nothing_waits, w.nothing_untaken) refl
 
-module _ (s : Shown) (until : Option ℕ) (x : ClientValue) where
-  lingers_rests : x.lingers ≡ true → (not x.ended && (not x.reads && (is_some x.until && is_at_most until x.until))) ≡ true → RestsClient s until x
+-- who is watched by a token is watched by that of its place
+token_of : (token place : ℕ) → is_clients token place ≡ true → token ≡ 2 * place
+token_of token place h = let b = both_true (token % 2 == 0) (token / 2 == place) h in search (arith, eqb-true (token % 2) 0 b.0, eqb-true (token / 2) place b.1)
+
+exchange_of : (token place : ℕ) → is_exchanges token place ≡ true → token ≡ 2 * place + 1
+exchange_of token place h = let b = both_true (token % 2 == 1) (token / 2 == place) h in search (arith, eqb-true (token % 2) 1 b.0, eqb-true (token / 2) place b.1)
+
+watched_as : (place : ℕ) (o : Option (ℕ × Bool)) → is_watched place o ≡ true → IsWatched (2 * place) o
+watched_as place None h = absurd (let clash : false ≡ true = h in let f : ⊥ = cc in f)
+watched_as place (Some w) h =
+    let b = both_true _ _ h in
+    ap (λ (t : ℕ). Some (t, w.1)) (token_of w.0 place b.1) ∙ ap (λ (for_writes : Bool). Some (2 * place, for_writes)) b.0
+
+module _ (s : Shown) (until : Option ℕ) (i : ℕ) (x : ClientValue) (watched : IsWatched (2 * i) x.watched) where
+  lingers_rests : x.lingers ≡ true → (not x.ended && (not x.reads && (is_some x.until && is_at_most until x.until))) ≡ true → RestsClient s until i x
   lingers_rests on h =
       let a = both_true _ _ h in
       let b = both_true _ _ a.1 in
       let c = both_true _ _ b.1 in record {
+        watched = watched;
         written = λ off. on_off x.lingers on off;
         goes_on = λ off w. on_off x.lingers on off;
         unread = λ off w goes. on_off x.lingers on off;
@@ -78,9 +93,10 @@ module _ (s : Shown) (until : Option ℕ) (x : ClientValue) where
         limited = λ l. (c.0, at_most until x.until c.1);
       }
 
-  written_rests : x.lingers ≡ false → is_written s x ≡ true → (not (s.is_ended x.conn) && (x.ended || not x.reads)) ≡ true → RestsClient s until x
+  written_rests : x.lingers ≡ false → is_written s x ≡ true → (not (s.is_ended x.conn) && (x.ended || not x.reads)) ≡ true → RestsClient s until i x
   written_rests off w h =
       let a = both_true _ _ h in record {
+        watched = watched;
         written = λ l. inl (written_all s x w);
         goes_on = λ l v. not_true (s.is_ended x.conn) a.0;
         unread = λ l v goes. not_true x.reads (one_true x.ended (not x.reads) a.1 goes);
@@ -88,8 +104,9 @@ module _ (s : Shown) (until : Option ℕ) (x : ClientValue) where
         limited = λ on. on_off x.lingers on off;
       }
 
-  waits_rests : x.lingers ≡ false → is_written s x ≡ false → not x.writes ≡ true → RestsClient s until x
+  waits_rests : x.lingers ≡ false → is_written s x ≡ false → not x.writes ≡ true → RestsClient s until i x
   waits_rests off w h = record {
+    watched = watched;
     written = λ l. inr (not_true x.writes h);
     goes_on = λ l v. on_off (is_written s x) (all_written s x v) w;
     unread = λ l v goes. on_off (is_written s x) (all_written s x v) w;
@@ -97,20 +114,23 @@ module _ (s : Shown) (until : Option ℕ) (x : ClientValue) where
     limited = λ on. on_off x.lingers on off;
   }
 
-  pub client_rests : rests_client s until x ≡ true → RestsClient s until x
-  client_rests h = by_it x.lingers refl h
+  client_waits : waits_client s until x ≡ true → RestsClient s until i x
+  client_waits h = by_it x.lingers refl h
     where
       open_by : (w : Bool) → is_written s x ≡ w → x.lingers ≡ false
-          → (if w then not (s.is_ended x.conn) && (x.ended || not x.reads) else not x.writes) ≡ true → RestsClient s until x
+          → (if w then not (s.is_ended x.conn) && (x.ended || not x.reads) else not x.writes) ≡ true → RestsClient s until i x
       open_by true is off k = written_rests off is k
       open_by false is off k = waits_rests off is k
 
       by_it : (b : Bool) → x.lingers ≡ b
           → (if b then not x.ended && (not x.reads && (is_some x.until && is_at_most until x.until))
           else (if is_written s x then not (s.is_ended x.conn) && (x.ended || not x.reads) else not x.writes)) ≡ true
-          → RestsClient s until x
+          → RestsClient s until i x
       by_it true is k = lingers_rests is k
       by_it false is k = open_by (is_written s x) refl is k
+
+pub client_rests : (s : Shown) (until : Option ℕ) (i : ℕ) (x : ClientValue) → rests_client s until i x ≡ true → RestsClient s until i x
+client_rests s until i x h = let b = both_true _ _ h in client_waits s until i x (watched_as i x.watched b.0) b.1
 
 -- ---- a job that is asked for
 
@@ -126,27 +146,65 @@ nothing_more got request begins h =
     by_length : {r g a t : ℕ} → r ≤ g → r ≡ a → a ≡ g + t → t ≡ 0
     by_length le is sum = omega (arith, le, is, sum)
 
-pub asking_rests : (s : Shown) (until : Option ℕ) (x : AskingState) → IsPrefixOf x.attempt.got (request_of x.job.job) → HasUntouched x → rests_asking s until x ≡ true
-    → RestsAsking s until (asked_for x)
-asking_rests s until x begins untouched h =
-    let a = both_true _ _ h in
-    let b = both_true _ _ a.1 in
-    let c = both_true _ _ b.0 in
-    let d = both_true _ _ c.1 in record {
-      wanted = a.0;
-      goes_on = not_true (is_some x.end) c.0;
-      limited = at_most until x.job.job.deadline b.1;
-      unread = λ some. not_true x.attempt.reads (read_by x.attempt.connected refl some d.0);
-      unsent = λ unsent. not_true x.attempt.writes (sent_by (is_sent (asked_for x)) refl unsent d.1);
-    }
-  where
-    read_by : (b : Bool) → x.attempt.connected ≡ b → (x.attempt.got ≡ [] → ⊥) → (not x.attempt.reads || not b) ≡ true → not x.attempt.reads ≡ true
-    read_by true is some h = one_true (not true) (not x.attempt.reads) (or_swap (not x.attempt.reads) h) refl
-    read_by false is some h = absurd (some (untouched is))
+module _ (s : Shown) (until : Option ℕ) (i : ℕ) (x : AskingState) (begins : IsPrefixOf x.attempt.got (request_of x.job.job)) (untouched : HasUntouched x) where
+  abbrev Sent : Bool
+  Sent = is_sent (asked_for x)
 
-    sent_by : (b : Bool) → is_sent (asked_for x) ≡ b → (x.attempt.got ≡ request_of x.job.job → ⊥) → (b || not x.attempt.writes) ≡ true → not x.attempt.writes ≡ true
-    sent_by true is unsent h = absurd (unsent (nothing_more x.attempt.got (request_of x.job.job) begins is))
-    sent_by false is unsent h = h
+  all_sent : Sent ≡ true → x.attempt.got ≡ request_of x.job.job
+  all_sent h = nothing_more x.attempt.got (request_of x.job.job) begins h
+
+  read_by : (b : Bool) → x.attempt.connected ≡ b → (x.attempt.got ≡ [] → ⊥) → (not x.attempt.reads || not b) ≡ true → not x.attempt.reads ≡ true
+  read_by true is some h = one_true (not true) (not x.attempt.reads) (or_swap (not x.attempt.reads) h) refl
+  read_by false is some h = absurd (some (untouched is))
+
+  -- what its stream, watched so, says of it
+  pub record RestsStream (watched : Option (ℕ × Bool)) : Type 0 where
+    pub unread : (x.attempt.got ≡ [] → ⊥) → x.attempt.reads ≡ false
+    pub unsent : (x.attempt.got ≡ request_of x.job.job → ⊥) → x.attempt.writes ≡ false
+    pub watches : is_some x.attempt.peer ≡ true → (writes : Bool) × (watched ≡ Some (2 * i + 1, writes)) × ((x.attempt.got ≡ request_of x.job.job → ⊥) → writes ≡ true)
+
+  unsent_by : (b w : Bool) → Sent ≡ b → (b || w) ≡ true → (x.attempt.got ≡ request_of x.job.job → ⊥) → w ≡ true
+  unsent_by true w is h unsent = absurd (unsent (all_sent is))
+  unsent_by false w is h unsent = h
+
+  streams : (watched : Option (ℕ × Bool)) → rests_watched Sent x.attempt watched ≡ true → is_watched_as i watched ≡ true → RestsStream watched
+  streams None h k = absurd (let clash : false ≡ true = h in let f : ⊥ = cc in f)
+  streams (Some w) h k =
+      let b = both_true _ _ h in
+      let writes : (x.attempt.got ≡ request_of x.job.job → ⊥) → (w.1 && not x.attempt.writes) ≡ true = unsent_by Sent (w.1 && not x.attempt.writes) refl b.1 in record {
+        unread = λ some. not_true x.attempt.reads (read_by x.attempt.connected refl some b.0);
+        unsent = λ unsent. not_true x.attempt.writes (both_true _ _ (writes unsent)).1;
+        watches = λ there. (w.1, ap (λ (t : ℕ). Some (t, w.1)) (exchange_of w.0 i k), λ unsent. (both_true _ _ (writes unsent)).0);
+      }
+
+  -- without a stream nothing may be read or written
+  nowhere : is_some x.attempt.peer ≡ false → (not x.attempt.reads && not x.attempt.writes) ≡ true → RestsStream x.attempt.watched
+  nowhere off h = record {
+    unread = λ some. not_true x.attempt.reads (both_true _ _ h).0;
+    unsent = λ unsent. not_true x.attempt.writes (both_true _ _ h).1;
+    watches = λ there. on_off (is_some x.attempt.peer) there off;
+  }
+
+  stream_by : (b : Bool) → is_some x.attempt.peer ≡ b → (if b then rests_watched Sent x.attempt x.attempt.watched else not x.attempt.reads && not x.attempt.writes) ≡ true → is_watched_as i x.attempt.watched ≡ true
+      → RestsStream x.attempt.watched
+  stream_by true is h k = streams x.attempt.watched h k
+  stream_by false is h k = nowhere is h
+
+  pub asking_rests : rests_asking s until i x ≡ true → RestsAsking s until i (asked_for x)
+  asking_rests h =
+      let a = both_true _ _ h in
+      let b = both_true _ _ a.1 in
+      let c = both_true _ _ b.1 in
+      let d = both_true _ _ c.1 in
+      let e = both_true _ _ a.0 in
+      let stream = stream_by (is_some x.attempt.peer) refl e.1 b.0 in record {
+        wanted = d.1;
+        goes_on = not_true (is_some x.end) e.0;
+        limited = (at_most until x.job.job.deadline d.0, at_most until (until_of x.attempt) c.0);
+        watched = stream.watches;
+        unread = stream.unread;
+        unsent = stream.unsent;
+      }
 
 -- ---- all of them
 
@@ -163,8 +221,8 @@ as_many f slots n le = rw (shown_none f slots) le
 pub all_asking : (s : Shown) (until : Option ℕ) (slots : List (Option AskingState))
     → ((i : ℕ) (x : AskingValue) → asked_at i (map (λ (o : Option AskingState). option_map asked_for o) slots) ≡ Some x → IsPrefixOf x.got (request_of x.job))
     → ((i : ℕ) (x : AskingState) → slice_index_or slots i None ≡ Some x → HasUntouched x)
-    → ((i : ℕ) (x : AskingState) → slice_index_or slots i None ≡ Some x → rests_asking s until x ≡ true)
-    → (i : ℕ) (x : AskingValue) → asked_at i (map (λ (o : Option AskingState). option_map asked_for o) slots) ≡ Some x → RestsAsking s until x
+    → ((i : ℕ) (x : AskingState) → slice_index_or slots i None ≡ Some x → rests_asking s until i x ≡ true)
+    → (i : ℕ) (x : AskingValue) → asked_at i (map (λ (o : Option AskingState). option_map asked_for o) slots) ≡ Some x → RestsAsking s until i x
 all_asking s until slots begins untouched rest i x is = by_slot (slice_index_or slots i None) refl
   where
     nobody : None ≡ Some x → ⊥
@@ -173,12 +231,12 @@ all_asking s until slots begins untouched rest i x is = by_slot (slice_index_or 
     some_is : (y : AskingValue) → Some y ≡ Some x → y ≡ x
     some_is y e = cc
 
-    by_slot : (o : Option AskingState) → slice_index_or slots i None ≡ o → RestsAsking s until x
+    by_slot : (o : Option AskingState) → slice_index_or slots i None ≡ o → RestsAsking s until i x
     by_slot None at_it = absurd (nobody (sym (shown_at slots i ∙ ap (λ (p : Option AskingState). option_map asked_for p) at_it) ∙ is))
     by_slot (Some y) at_it =
         let same = some_is (asked_for y) (sym (shown_at slots i ∙ ap (λ (p : Option AskingState). option_map asked_for p) at_it) ∙ is) in
-        subst (λ (z : AskingValue). RestsAsking s until z) same
-        (asking_rests s until y (subst (λ (z : AskingValue). IsPrefixOf z.got (request_of z.job)) (sym same) (begins i x is)) (untouched i y at_it) (rest i y at_it))
+        subst (λ (z : AskingValue). RestsAsking s until i z) same
+        (asking_rests s until i y (subst (λ (z : AskingValue). IsPrefixOf z.got (request_of z.job)) (sym same) (begins i x is)) (untouched i y at_it) (rest i y at_it))
 
 -- the next turn is due at that moment, or not before something comes
 pub due_at : (until : Option ℕ) (now moment : ℕ) → due_by until now ≡ At moment → until ≡ Some moment

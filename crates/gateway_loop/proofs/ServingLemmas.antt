@@ -1,5 +1,5 @@
 -- What each call of the core makes of what its history explains.
-use Rattle.gateway_loop.proofs.Words.{◌≡◌, ℕ, ◌<◌, ◌≤◌, Bool, true, false, List, [], ◌∷◌, ◌++◌, All, Option, None, Some, refl, sym, ap, ◌∙◌, subst, append-nil, inl, ◌==◌, max, not, unwrap_or, AllZip, reverse-append, All-weaker, PlanRecord, Outcome, Event, BranchResult, Closing, Drain, Moment, Occurs, connections, is_open, stream, History, after_event, after_jobs, after_opening, no_history, JobValue, call_id, marked, IsPrefixOf, queued, occurrences, GatewayValue, shown, Served, ClientValue, IsExplainedClient, client_value, IsExplainedBy, LoopValue, at, draining, one_below, IsResultOf, ResultValue, moments, results, Fits, HasStood, HoldsRest, IsHeld, IsServing, Leads, MakesSteps, OpensNone, lingering, LoopLaws}
+use Rattle.gateway_loop.proofs.Words.{Ready, ◌≡◌, ℕ, ◌<◌, ◌≤◌, Bool, true, false, List, [], ◌∷◌, ◌++◌, All, Option, None, Some, refl, sym, ap, ◌∙◌, subst, append-nil, inl, ◌==◌, max, not, unwrap_or, AllZip, reverse-append, All-weaker, PlanRecord, Outcome, Event, BranchResult, Closing, Drain, Moment, Occurs, connections, is_open, stream, History, after_event, after_jobs, after_opening, no_history, JobValue, call_id, marked, IsPrefixOf, queued, occurrences, GatewayValue, shown, Served, ClientValue, IsExplainedClient, client_value, IsExplainedBy, LoopValue, at, draining, one_below, IsResultOf, ResultValue, moments, results, Fits, HasStood, HoldsRest, IsHeld, IsServing, Leads, MakesSteps, OpensNone, lingering, LoopLaws}
 use Rattle.std.proofs.lemmas.Bool.Decides.{nat_tests}
 use Rattle.std.proofs.Common.{arith}
 use Rattle.gateway_model.specs.declared.id.CallId.{CallId}
@@ -52,20 +52,20 @@ module _ (unknown : Outcome) (laws : LoopLaws) (v w : GatewayValue) (moment : �
         }
 
     -- a client comes
-    pub serving_comes : (i c : ℕ) (given got : List ℕ) (ended reads writes : Bool) → c ≡ v.opened → given ≡ [] → got ≡ [] → ended ≡ false
+    pub serving_comes : (i c : ℕ) (given got : List ℕ) (ended reads writes : Bool) (watched : Option (ℕ × Bool)) (reported : List Ready) → c ≡ v.opened → given ≡ [] → got ≡ [] → ended ≡ false
         → ((h : History) → Served v h → Served w (after_opening h))
-        → at i l.clients ≡ None → Put l.clients m.clients i (Some (client_value c false given got ended [] reads writes None)) → m.gone ≡ l.gone → SameRest l m → IsServing unknown v moment l → IsServing unknown w moment m
-    serving_comes i c given got ended reads writes number none_given none_got on takes vacant puts gone rest s =
+        → at i l.clients ≡ None → Put l.clients m.clients i (Some (client_value c false given got ended [] reads writes watched reported None)) → m.gone ≡ l.gone → SameRest l m → IsServing unknown v moment l → IsServing unknown w moment m
+    serving_comes i c given got ended reads writes watched reported number none_given none_got on takes vacant puts gone rest s =
         let h = s.history in
         let k = after_opening h in
         let below = s.serves.conns.below in
         let c_is : c ≡ connections h.opened h.events = number ∙ sym s.serves.conns.count_is in
-        let y = client_value c false given got ended [] reads writes None in record {
+        let y = client_value c false given got ended [] reads writes watched reported None in record {
           history = k;
           serves = takes h s.serves;
           held = subst (λ (ps : List PlanRecord). IsHeld unknown ps k moment m) (sym plans_are)
               (held_comes unknown laws v.plans moment l m h k i y
-              (subst (λ (n : ℕ). Fits v.plans k (client_value n false given got ended [] reads writes None)) (sym c_is) (born_fits laws w v.plans h below plans_are (takes h s.serves) given got ended none_given none_got on))
+              (subst (λ (n : ℕ). Fits v.plans k (client_value n false given got ended [] reads writes watched reported None)) (sym c_is) (born_fits laws w v.plans h below plans_are (takes h s.serves) given got ended none_given none_got on))
               c_is (fits_known v.plans h) (leads_opening h below v.plans nobodys) record { moments_are = refl; results_are = append-nil (results h.events); drains_are = refl; handed_are = refl }
               (born_count h below) vacant puts gone rest s.held);
         }

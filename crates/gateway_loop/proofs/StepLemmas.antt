@@ -1,5 +1,5 @@
 -- What steps of a client make of what it fits.
-use Rattle.gateway_loop.proofs.Words.{◌≡◌, ℕ, ◌<◌, Bool, true, false, List, [], ◌∷◌, ◌++◌, length, take, Option, None, Some, refl, sym, ap, ◌∙◌, subst, append_assoc, append-nil, ◌==◌, eq-eqb, map-append, PlanRecord, Event, Piece, HangUp, Closing, Occurs, connections, is_opening, stream, succeeds, History, after_event, after_opening, Past, marked, IsPrefixOf, answer_of, queued, Placed, occurrences, GatewayValue, Served, after_reply, ClientValue, client_value, is_drain, moment_in, result_in, Fits, FitsOn, HasStood, IsQuiet, Leads, MakesSteps, Stands, lingering, LoopLaws}
+use Rattle.gateway_loop.proofs.Words.{Ready, ◌≡◌, ℕ, ◌<◌, Bool, true, false, List, [], ◌∷◌, ◌++◌, length, take, Option, None, Some, refl, sym, ap, ◌∙◌, subst, append_assoc, append-nil, ◌==◌, eq-eqb, map-append, PlanRecord, Event, Piece, HangUp, Closing, Occurs, connections, is_opening, stream, succeeds, History, after_event, after_opening, Past, marked, IsPrefixOf, answer_of, queued, Placed, occurrences, GatewayValue, Served, after_reply, ClientValue, client_value, is_drain, moment_in, result_in, Fits, FitsOn, HasStood, IsQuiet, Leads, MakesSteps, Stands, lingering, LoopLaws}
 use Rattle.std.proofs.lemmas.Bool.Decides.{nat_tests}
 use Rattle.std.specs.Prelude.{drop}
 use Rattle.std.proofs.Common.{arith}
@@ -86,8 +86,8 @@ pub fits_as_before : (x : ClientValue) → FitsOn x x
 fits_as_before x = record { conn = refl; fits = λ plans h f. f }
 
 -- what may be done at its stream counts for nothing
-pub fits_moved : (x : ClientValue) (reads writes : Bool) → FitsOn x (record x { reads = reads; writes = writes })
-fits_moved x reads writes = record {
+pub fits_moved : (x : ClientValue) (reads writes : Bool) (watched : Option (ℕ × Bool)) (reported : List Ready) → FitsOn x (record x { reads = reads; writes = writes; watched = watched; reported = reported })
+fits_moved x reads writes watched reported = record {
   conn = refl;
   fits = λ plans h f. record {
     stands = λ off.
@@ -96,7 +96,7 @@ fits_moved x reads writes = record {
   };
 }
   where
-    stood_as : {plans : List PlanRecord} {h : History} → HasStood plans h x → HasStood plans h (record x { reads = reads; writes = writes })
+    stood_as : {plans : List PlanRecord} {h : History} → HasStood plans h x → HasStood plans h (record x { reads = reads; writes = writes; watched = watched; reported = reported })
     stood_as s =
         let e = s.explained in record {
           explained = record { known = e.known; dropped = e.dropped; read = e.read; all_fed = e.all_fed; hangs_up = e.hangs_up; no_other = e.no_other; written = e.written };
@@ -104,10 +104,10 @@ fits_moved x reads writes = record {
         }
 
 -- nothing was read, and nothing written
-pub fits_still : {reads writes reads' writes' : Bool} {until : Option ℕ} → (conn : ℕ) (lingers ended ended' : Bool) (given got waiting given' got' : List ℕ) → given' ≡ given → got' ≡ got → ended' ≡ ended
-    → FitsOn (client_value conn lingers given got ended waiting reads writes until) (client_value conn lingers given' got' ended' waiting reads' writes' until)
-fits_still {reads} {writes} {reads'} {writes'} {until} conn lingers ended ended' given got waiting given' got' same_given same_got same_ended =
-    rw (same_given, same_got, same_ended) (fits_moved (client_value conn lingers given got ended waiting reads writes until) reads' writes')
+pub fits_still : {reads writes reads' writes' : Bool} {watched watched' : Option (ℕ × Bool)} {reported reported' : List Ready} {until : Option ℕ} → (conn : ℕ) (lingers ended ended' : Bool) (given got waiting given' got' : List ℕ) → given' ≡ given → got' ≡ got → ended' ≡ ended
+    → FitsOn (client_value conn lingers given got ended waiting reads writes watched reported until) (client_value conn lingers given' got' ended' waiting reads' writes' watched' reported' until)
+fits_still {reads} {writes} {reads'} {writes'} {watched} {watched'} {reported} {reported'} {until} conn lingers ended ended' given got waiting given' got' same_given same_got same_ended =
+    rw (same_given, same_got, same_ended) (fits_moved (client_value conn lingers given got ended waiting reads writes watched reported until) reads' writes' watched' reported')
 
 pub steps_same : (v : GatewayValue) (x : ClientValue) → MakesSteps v v x x
 steps_same v x = steps_fit v x x (fits_as_before x)
@@ -150,15 +150,15 @@ steps_reply v w x y reply same conn takes fits = record {
 -- ---- a client's own
 
 -- a piece was read, and fed
-pub fits_piece : {reads writes reads' writes' : Bool} {until : Option ℕ} → (conn n : ℕ) (lingers ended ended' : Bool) (given got waiting given' got' piece : List ℕ) → lingers ≡ false
+pub fits_piece : {reads writes reads' writes' : Bool} {watched watched' : Option (ℕ × Bool)} {reported reported' : List Ready} {until : Option ℕ} → (conn n : ℕ) (lingers ended ended' : Bool) (given got waiting given' got' piece : List ℕ) → lingers ≡ false
     → given' ≡ given ++ take n piece → got' ≡ got → ended' ≡ ended → ended ≡ false → (plans : List PlanRecord) (h : History)
-    → Fits plans h (client_value conn lingers given got ended waiting reads writes until) → Fits plans (after_event (Piece conn (take n piece)) h) (client_value conn lingers given' got' ended' waiting reads' writes' until)
+    → Fits plans h (client_value conn lingers given got ended waiting reads writes watched reported until) → Fits plans (after_event (Piece conn (take n piece)) h) (client_value conn lingers given' got' ended' waiting reads' writes' watched' reported' until)
 fits_piece conn n lingers ended ended' given got waiting given' got' piece not_left more same_got same on plans h f = search arith
 
 -- of one that lingers a piece was read, and dropped
-pub fits_dropped : {reads writes reads' writes' : Bool} {until : Option ℕ} → (conn n : ℕ) (lingers ended ended' : Bool) (given got waiting given' got' piece : List ℕ) → lingers ≡ true
+pub fits_dropped : {reads writes reads' writes' : Bool} {watched watched' : Option (ℕ × Bool)} {reported reported' : List Ready} {until : Option ℕ} → (conn n : ℕ) (lingers ended ended' : Bool) (given got waiting given' got' piece : List ℕ) → lingers ≡ true
     → given' ≡ given ++ take n piece → got' ≡ got → ended' ≡ ended
-    → FitsOn (client_value conn lingers given got ended waiting reads writes until) (client_value conn lingers given' got' ended' waiting reads' writes' until)
+    → FitsOn (client_value conn lingers given got ended waiting reads writes watched reported until) (client_value conn lingers given' got' ended' waiting reads' writes' watched' reported' until)
 fits_dropped conn n lingers ended ended' given got waiting given' got' piece left more same_got same = record {
   conn = refl;
   fits = λ plans h f. record {
@@ -182,8 +182,8 @@ fits_dropped conn n lingers ended ended' given got waiting given' got' piece lef
 }
 
 -- some of what waited was written
-pub fits_sent : {reads writes reads' writes' : Bool} {until : Option ℕ} → (conn n : ℕ) (lingers ended ended' : Bool) (given got waiting given' got' : List ℕ) → given' ≡ given → got' ≡ got ++ take n waiting → ended' ≡ ended
-    → FitsOn (client_value conn lingers given got ended waiting reads writes until) (client_value conn lingers given' got' ended' (drop n waiting) reads' writes' until)
+pub fits_sent : {reads writes reads' writes' : Bool} {watched watched' : Option (ℕ × Bool)} {reported reported' : List Ready} {until : Option ℕ} → (conn n : ℕ) (lingers ended ended' : Bool) (given got waiting given' got' : List ℕ) → given' ≡ given → got' ≡ got ++ take n waiting → ended' ≡ ended
+    → FitsOn (client_value conn lingers given got ended waiting reads writes watched reported until) (client_value conn lingers given' got' ended' (drop n waiting) reads' writes' watched' reported' until)
 fits_sent conn n lingers ended ended' given got waiting given' got' same_given more same =
     let whole : got' ++ drop n waiting ≡ got ++ waiting =
     ap (λ (t : List ℕ). t ++ drop n waiting) more ∙ append_assoc got (take n waiting) (drop n waiting) ∙ ap (λ (t : List ℕ). got ++ t) (take-append-drop n waiting) in record {
@@ -216,9 +216,9 @@ fits_sent conn n lingers ended ended' given got waiting given' got' same_given m
     }
 
 -- it hung up
-pub fits_hang_up : {reads writes reads' writes' : Bool} {until : Option ℕ} → (conn : ℕ) (lingers ended ended' : Bool) (given got waiting given' got' : List ℕ) → lingers ≡ false
+pub fits_hang_up : {reads writes reads' writes' : Bool} {watched watched' : Option (ℕ × Bool)} {reported reported' : List Ready} {until : Option ℕ} → (conn : ℕ) (lingers ended ended' : Bool) (given got waiting given' got' : List ℕ) → lingers ≡ false
     → given' ≡ given → got' ≡ got → ended' ≡ true → (plans : List PlanRecord) (h : History)
-    → Fits plans h (client_value conn lingers given got ended waiting reads writes until) → Fits plans (after_event (HangUp conn) h) (client_value conn lingers given' got' ended' waiting reads' writes' until)
+    → Fits plans h (client_value conn lingers given got ended waiting reads writes watched reported until) → Fits plans (after_event (HangUp conn) h) (client_value conn lingers given' got' ended' waiting reads' writes' watched' reported' until)
 fits_hang_up conn lingers ended ended' given got waiting given' got' not_left same_given same_got now plans h f =
     let s = f.stands not_left in record {
       stands = λ off. record {
@@ -237,9 +237,9 @@ bytes_more : (entries : List ReplyEntry) (entry : ReplyEntry) → bytes_of (entr
 bytes_more entries entry = grind (arith, nat_tests, map-append, flat_map-append, append-nil)
 
 -- a reply was taken where nothing waited
-pub fits_reply : {reads writes : Bool} {until : Option ℕ} → (conn : ℕ) (lingers ended : Bool) (given got waiting bytes : List ℕ) (reply : ReplyValue) → lingers ≡ false
+pub fits_reply : {reads writes : Bool} {watched : Option (ℕ × Bool)} {reported : List Ready} {until : Option ℕ} → (conn : ℕ) (lingers ended : Bool) (given got waiting bytes : List ℕ) (reply : ReplyValue) → lingers ≡ false
     → waiting ≡ [] → bytes ≡ (answer_of reply.entry).bytes → (plans : List PlanRecord) (h : History)
-    → Fits plans h (client_value conn lingers given got ended waiting reads writes until) → Fits plans (after_reply conn (Some reply) h) (client_value conn lingers given got ended bytes reads writes until)
+    → Fits plans h (client_value conn lingers given got ended waiting reads writes watched reported until) → Fits plans (after_reply conn (Some reply) h) (client_value conn lingers given got ended bytes reads writes watched reported until)
 fits_reply conn lingers ended given got waiting bytes reply not_left none is plans h f = grind (arith, nat_tests, append-nil, bytes_more, eq-eqb, off_is_not)
 
 nothing_taken : (n : ℕ) (taken : ℕ → List ReplyEntry) (c : ℕ) → with_reply n None taken c ≡ taken c
@@ -325,8 +325,8 @@ leaves laws v plans h x until are served f = record {
 -- ---- the client of a connection that just opened
 
 pub born_fits : (laws : LoopLaws) (w : GatewayValue) (plans : List PlanRecord) (h : History) (below : (place : ℕ) → succeeds h.opened place ≡ true → place < length h.events)
-    → w.plans ≡ plans → Served w (after_opening h) → (given got : List ℕ) (ended : Bool) → given ≡ [] → got ≡ [] → ended ≡ false → {reads writes : Bool}
-    → Fits plans (after_opening h) (client_value (connections h.opened h.events) false given got ended [] reads writes None)
+    → w.plans ≡ plans → Served w (after_opening h) → (given got : List ℕ) (ended : Bool) → given ≡ [] → got ≡ [] → ended ≡ false → {reads writes : Bool} {watched : Option (ℕ × Bool)} {reported : List Ready}
+    → Fits plans (after_opening h) (client_value (connections h.opened h.events) false given got ended [] reads writes watched reported None)
 born_fits laws w plans h below are served given got ended none_given none_got on = record {
   stands = λ off. record {
     known = born_known h below;

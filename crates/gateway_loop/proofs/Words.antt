@@ -28,10 +28,12 @@ pub use Rattle.loop_model.specs.Clients.{ClientValue, client_value, IsExplainedC
 pub use Rattle.loop_model.specs.Explained.{LoopValue, at, one_below, count_of, IsExplainedBy, draining}
 pub use Rattle.loop_model.specs.Growing.{HasTicked, Grows, Continues}
 pub use Rattle.loop_model.specs.Handed.{results, IsResultOf, ResultValue, moments, is_drain, moment_in, result_in}
-pub use Rattle.loop_model.specs.Whole.{AsksOn, AsksFairly, ContinuesLoop, GivesUpStream, HasEndedSince, KeepsStream, WholeLoop, asked_at, count_asked, draining_loop}
+pub use Rattle.loop_model.specs.Whole.{TellsLoop, AsksOn, AsksFairly, ContinuesLoop, GivesUpStream, HasEndedSince, KeepsStream, WholeLoop, asked_at, count_asked, draining_loop}
 pub use Rattle.slab.specs.Slab.{Slab, Updates, entries_from, entries, slab_len}
 pub use Rattle.branch_asking.specs.Addresses.{AddressesValue, AreOf, addresses_value, next_of, HasParsed}
 pub use Rattle.branch_asking.specs.Asking.{AskingState, asked_for, Asks, HasGrown, AttemptValue, HadStream, HasBegun, HasEnded, IsUnsent, IsUntouchedAttempt, asking_state, attempt_value}
 pub use Rattle.gateway_loop.specs.Clients.{Leads, lingering, Fits, HasStood, MakesSteps, Onward, HoldsRest, IsHeld, IsQuiet, OpensNone, HandsNothing, Follows, IsStreamOf, IsServing, FitsOn, Stands}
 pub use Rattle.gateway_loop.specs.Laws.{LoopLaws}
-pub use Rattle.gateway_loop.specs.Loop.{AreFramed, IsFramed, Goes, TellsLoop, whole_loop}
+pub use Rattle.gateway_loop.specs.Loop.{AreFramed, IsFramed, Goes, whole_loop}
+pub use Rattle.loop_model.specs.Reports.{changed_at, tell, tell_all, tell_in, told_asking, told_client}
+pub use Rattle.wires.specs.declared.ready.Ready.{Ready}

@@ -15,16 +15,14 @@ use Rattle.loop_model.specs.Clients.{ClientValue, IsExplainedClient}
 use Rattle.loop_model.specs.Explained.{LoopValue, at, count_of, one_below}
 use Rattle.loop_model.specs.Growing.{Continues}
 use Rattle.loop_model.specs.Handed.{HandsIn, IsResultOf, has_drained, latest, moments, results}
-use Rattle.wires.specs.Wires.{is_to_read}
-use Rattle.wires.specs.declared.ready.Ready.{Ready}
 
 -- its connection was closed, and it lingers until then at most
 abbrev pub lingering : ℕ → ClientValue → ClientValue
 lingering until x = record x { lingers = true; until = Some until }
 
--- the report became known of its stream
-abbrev pub reported : Ready → ClientValue → ClientValue
-reported ready x = record x { reads = x.reads || is_to_read ready; writes = x.writes || ready.writable }
+-- its stream is watched so from now on
+abbrev pub watched_by : Option (ℕ × Bool) → ClientValue → ClientValue
+watched_by watched x = record x { watched = watched }
 
 -- nothing was read or written yet
 pub record IsFresh (given got : List ℕ) (ended : Bool) : Type 0 where
@@ -158,10 +156,6 @@ pub record Starts (l : LoopValue) : Type 0 where
 -- what the one continues the other does too
 pub record Onward (v w : LoopValue) : Type 0 where
   pub on : (u : LoopValue) → Continues u v → Continues u w
-
--- the loop was told what the clock told
-abbrev pub Tells : List ℕ → List ℕ → LoopValue → LoopValue → Type 0
-Tells before after v w = (u : List ℕ) → before ≡ u ++ v.told → after ≡ u ++ w.told
 
 -- no result was handed in, and no job was taken
 pub record HandsNothing (v w : LoopValue) : Type 0 where

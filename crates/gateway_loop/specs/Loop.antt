@@ -6,7 +6,7 @@ use Rattle.loop_model.specs.Asking.{ended_value}
 use Rattle.loop_model.specs.Explained.{LoopValue}
 use Rattle.loop_model.specs.Whole.{ContinuesLoop, WholeLoop}
 use Rattle.branch_asking.specs.Asking.{AskingState, asked_for}
-use Rattle.gateway_loop.specs.Clients.{Starts, Tells}
+use Rattle.gateway_loop.specs.Clients.{Starts}
 
 abbrev pub whole_loop : Framing → LoopValue → List (Option AskingState) → List (AskingState × Option Outcome) → WholeLoop
 whole_loop framing side asking ended = record {
@@ -33,7 +33,3 @@ pub record StartsLoop (w : WholeLoop) : Type 0 where
 -- what the one continues the other does too
 pub record Goes (v w : WholeLoop) : Type 0 where
   pub on : (u : WholeLoop) → ContinuesLoop u v → ContinuesLoop u w
-
--- the loop was told what the clock told
-abbrev pub TellsLoop : List ℕ → List ℕ → WholeLoop → WholeLoop → Type 0
-TellsLoop before after v w = Tells before after v.side w.side

@@ -2,15 +2,16 @@ ghost use Rattle.std.specs.Prelude.{◌≡◌, ◌||◌, false, [], ℕ, List, N
 ghost use Rattle.std.specs.Borrow.{sem};
 ghost use Rattle.loop_model.specs.Clients.{client_value};
 ghost use Rattle.loop_model.specs.Growing.{Grows};
-ghost use Rattle.gateway_loop.specs.Clients.{FitsOn, MakesSteps, lingering, reported};
-ghost use Rattle.gateway_loop.specs.Rests.{rests_client};
+ghost use Rattle.loop_model.specs.Reports.{told_client};
+ghost use Rattle.gateway_loop.specs.Clients.{FitsOn, MakesSteps, lingering, watched_by};
 ghost use Rattle.gateway_model.specs.declared.event.Event.TheVariants.{HangUp, Piece};
-ghost use Rattle.gateway_loop.specs.Rests.{is_written};
+ghost use Rattle.gateway_loop.specs.Rests.{is_watched, is_written, rests_client, waits_client};
 ghost use Rattle.gateway_theory.specs.Told.{TakesEvent};
 ghost use Rattle.gateway_theory.specs.Values.{shown};
 
 use crate::hints::Hints;
 use crate::limits::{MOST_WRITES, is_not_after};
+use crate::tokens::is_clients;
 use branch_asking::Network;
 use gateway_core::{CallId, ConnId, Core, ReplyEntry, ReplyHook, RequestLabel, deliver};
 use http_pieces::Bytes;
@@ -41,7 +42,7 @@ impl<W: Wire> Model for Client<W> {
 
     ghost Value = { ClientValue };
 
-    ghost view = { λ c. client_value c.conn c.lingers (W.given c.wire) (W.got c.wire) (W.ended c.wire) c.outbox (W.reads c.wire) (W.writes c.wire) c.until };
+    ghost view = { λ c. client_value c.conn c.lingers (W.given c.wire) (W.got c.wire) (W.ended c.wire) c.outbox (W.reads c.wire) (W.writes c.wire) (W.watched c.wire) (W.reported c.wire) c.until };
 
     ghost invariant = { λ c. W.ended c.wire ≡ c.has_ended };
 }
@@ -78,7 +79,7 @@ impl<W: Wire> Client<W> {
     /// The client of a new connection.
     pub(crate) fn new(alloc: Global, wire: W, conn: ConnId) -> Client<W>
         requires { W.ended wire ≡ false }
-        ensures { result ≡ client_value conn false (W.given wire) (W.got wire) (W.ended wire) [] (W.reads wire) (W.writes wire) None }
+        ensures { result ≡ client_value conn false (W.given wire) (W.got wire) (W.ended wire) [] (W.reads wire) (W.writes wire) (W.watched wire) (W.reported wire) None }
     {
         Client {
             wire,
@@ -111,7 +112,7 @@ impl<W: Wire> Client<W> {
 
     /// Watches its stream by that token. False where it can't.
     pub(crate) fn watch<N: Network<W>>(&mut self, net: &mut N, token: usize) -> bool
-        ensures same { self.new ≡ self.old }
+        ensures same { self.new ≡ watched_by self.new.watched self.old }
         ensures told { N.told net.new ≡ N.told net.old }
     {
         net.watch(&mut self.wire, token, true)
@@ -119,7 +120,7 @@ impl<W: Wire> Client<W> {
 
     /// Something became possible at its stream.
     pub(crate) fn report(&mut self, ready: Ready)
-        ensures { self.new ≡ reported ready self.old }
+        ensures { self.new ≡ told_client ready self.old }
     {
         self.wire.report(ready);
     }
@@ -143,6 +144,11 @@ impl<W: Wire> Client<W> {
         self.has_ended
     }
 
+    /// Until when it lingers at most.
+    pub(crate) fn until(&self) -> Option<u64> {
+        self.until
+    }
+
     /// Whether all was written that was queued for it so far.
     fn is_written<H: ReplyHook + Drop>(&self, core: &Core<H>) -> bool
         ensures { result ≡ is_written (shown core.now) self.now }
@@ -150,9 +156,31 @@ impl<W: Wire> Client<W> {
         self.outbox.is_empty() && core.untaken(self.conn) == 0
     }
 
-    /// Whether nothing is to be done for it before that moment.
-    pub(crate) fn rests<H: ReplyHook + Drop>(&self, core: &Core<H>, until: Option<u64>) -> bool
-        ensures { result ≡ rests_client (shown core.now) until self.now }
+    /// Whether its stream is watched by the token of that place, and for room to write too.
+    fn is_watched(&self, place: usize) -> bool
+        ensures { result ≡ is_watched place self.now.watched }
+    {
+        match self.wire.watched() {
+            Some((token, for_writes)) => for_writes && is_clients(token, place),
+            None => false,
+        }
+    }
+
+    /// Whether nothing is to be done for it, in that place, before that moment.
+    pub(crate) fn rests<H: ReplyHook + Drop>(
+        &self,
+        core: &Core<H>,
+        until: Option<u64>,
+        place: usize,
+    ) -> bool
+        ensures { result ≡ rests_client (shown core.now) until place self.now }
+    {
+        self.is_watched(place) && self.waits(core, until)
+    }
+
+    /// The same, but for how its stream is watched.
+    fn waits<H: ReplyHook + Drop>(&self, core: &Core<H>, until: Option<u64>) -> bool
+        ensures { result ≡ waits_client (shown core.now) until self.now }
     {
         let may_read = self.wire.may_read();
         if self.lingers {

@@ -1,16 +1,17 @@
 ghost use Rattle.std.specs.Prelude.{◌≡◌, ◌++◌, ◌∷◌, [], ℕ, List, IfOk, IsTrue, option_map, option_to_list};
-ghost use Rattle.gateway_loop.specs.Clients.{HandsNothing, Onward, Starts, Tells};
+ghost use Rattle.gateway_loop.specs.Clients.{HandsNothing, Onward, Starts};
 ghost use Rattle.gateway_model.specs.History.{no_history};
 ghost use Rattle.gateway_theory.specs.Served.{Served};
 ghost use Rattle.gateway_loop.specs.Rests.{AllRest};
 ghost use Rattle.loop_model.specs.Explained.{IsExplained, draining};
-ghost use Rattle.loop_model.specs.Growing.{HasTicked};
+ghost use Rattle.loop_model.specs.Growing.{HasTicked, Tells};
+ghost use Rattle.loop_model.specs.Reports.{changed_at, told_client};
 ghost use Rattle.loop_model.specs.Standing.{count_clients, count_lingering};
 
 use crate::client::{Client, Heard, Written};
 use crate::comings::Dealt;
 use crate::laws::loop_laws;
-use crate::limits::{MOST_CLIENTS, is_due};
+use crate::limits::{MOST_CLIENTS, is_due, places_with};
 use crate::tokens::client_token;
 use branch_asking::Network;
 use call_plan::Plans;
@@ -29,6 +30,8 @@ pub(crate) struct Clients<H, W: Wire> {
     alloc: Global,
     core: Core<H>,
     clients: Slab<Client<W>>,
+    // so many places have clients, or had some since none was there
+    places: usize,
     // the last moment that was handed in
     moment: u64,
     // for proofs: the clients that have gone, the moments that were told, the results that were handed in, and the
@@ -65,6 +68,7 @@ impl<H: ReplyHook + Drop, W: Wire + Drop> Clients<H, W> {
             alloc,
             clients: Slab::with_capacity(alloc, MOST_CLIENTS)?,
             core: Core::new(alloc, plans)?,
+            places: 0,
             moment: 0,
             gone: Log::new(),
             told: Log::new(),
@@ -90,6 +94,7 @@ impl<H: ReplyHook + Drop, W: Wire + Drop> Clients<H, W> {
         let place = self
             .clients
             .insert_reserved(Client::new(self.alloc, wire, conn));
+        self.places = places_with(self.places, place, self.clients.len());
         Some(place)
     }
 
@@ -248,13 +253,18 @@ impl<H: ReplyHook + Drop, W: Wire + Drop> Clients<H, W> {
 
     /// Watches the stream of the client in that place. False where it can't be.
     pub(crate) fn watch<N: Network<W>>(&mut self, net: &mut N, place: usize) -> bool
-        ensures same { self.new ≡ self.old }
-        ensures told { N.told net.new ≡ N.told net.old }
+        ensures goes { Onward self.old self.new }
+        ensures told { self.new.told ≡ self.old.told }
+        ensures same { N.told net.new ≡ N.told net.old }
+        ensures hands { HandsNothing self.old self.new }
     {
-        match self.clients.get_mut(place) {
-            Some(client) => client.watch(net, client_token(place)),
-            None => false,
-        }
+        loop_laws();
+        let Some(mut client) = self.clients.try_remove(place) else {
+            return false;
+        };
+        let is_watched = client.watch(net, client_token(place));
+        let _place = self.clients.insert_reserved(client);
+        is_watched
     }
 
     /// Tells that the connection of the client in that place broke, if it did.
@@ -274,6 +284,25 @@ impl<H: ReplyHook + Drop, W: Wire + Drop> Clients<H, W> {
         self.clients.get(place).is_some_and(Client::lingers)
     }
 
+    /// Whether the client in that place lingers, and goes: its stream has brought its end, or its time is over.
+    pub(crate) fn is_to_go(&self, place: usize) -> bool {
+        let Some(client) = self.clients.get(place) else {
+            return false;
+        };
+        client.lingers() && (client.has_ended() || is_due(client.until(), self.moment))
+    }
+
+    /// The first limit of those that linger.
+    pub(crate) fn next_until(&self) -> Option<u64> {
+        let clients = self.clients.iter();
+        clients.filter_map(|client| client.1.until()).min()
+    }
+
+    /// So many places have clients, or had some since none was there.
+    pub(crate) fn places(&self) -> usize {
+        self.places
+    }
+
     /// Whether the connection of the client in that place is open, and its stream may bring more.
     pub(crate) fn is_read(&self, place: usize) -> bool {
         matches!(self.clients.get(place), Some(client) if !client.lingers() && !client.has_ended())
@@ -282,7 +311,7 @@ impl<H: ReplyHook + Drop, W: Wire + Drop> Clients<H, W> {
     /// Whether nothing is to be done for the client in that place before that moment.
     pub(crate) fn rests(&self, place: usize, until: Option<u64>) -> bool {
         let client = self.clients.get(place);
-        client.is_none_or(|client| client.rests(&self.core, until))
+        client.is_none_or(|client| client.rests(&self.core, until, place))
     }
 
     /// Whether nothing is to be done for any client before that moment.
@@ -290,7 +319,7 @@ impl<H: ReplyHook + Drop, W: Wire + Drop> Clients<H, W> {
         ensures { IsTrue result → AllRest until self.now }
     {
         let mut clients = self.clients.iter();
-        clients.all(|client| client.1.rests(&self.core, until))
+        clients.all(|client| client.1.rests(&self.core, until, client.0))
     }
 
     /// Whether the client in that place is to be read: its stream may have bytes.
@@ -351,25 +380,12 @@ impl<H: ReplyHook + Drop, W: Wire + Drop> Clients<H, W> {
 impl<H: ReplyHook + Drop, W: Wire + Drop> Clients<H, W> {
     /// Something became possible at the stream of the client in that place.
     pub(crate) fn note_ready(&mut self, place: usize, ready: Ready)
+        ensures exact { self.new ≡ record self.old { clients = changed_at (told_client ready) place self.old.clients } }
         ensures goes { Onward self.old self.new }
-        ensures told { self.new.told ≡ self.old.told }
-        ensures hands { HandsNothing self.old self.new }
     {
         loop_laws();
-        let Some(mut client) = self.clients.try_remove(place) else {
-            return;
-        };
-        client.report(ready);
-        let _place = self.clients.insert_reserved(client);
-    }
-
-    /// Whether the client in that place is in the line from now on. Answers whether it was; true where nobody is there.
-    pub(crate) fn set_in_line(&mut self, place: usize, is_in_line: bool) -> bool
-        ensures { self.new ≡ self.old }
-    {
-        match self.clients.get_mut(place) {
-            Some(client) => client.hints_mut().set_in_line(is_in_line),
-            None => true,
+        if let Some(client) = self.clients.get_mut(place) {
+            client.report(ready);
         }
     }
 

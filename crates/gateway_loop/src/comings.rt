@@ -68,9 +68,4 @@ impl<H, W: Wire> Comings<H, W> {
             found: VecDeque::new(alloc),
         }
     }
-
-    /// Whether there is nothing.
-    pub(crate) fn is_empty(&self) -> bool {
-        self.ready.is_empty() && self.streams.is_empty() && self.found.is_empty()
-    }
 }

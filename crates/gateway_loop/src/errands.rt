@@ -1,4 +1,5 @@
-ghost use Rattle.gateway_loop.specs.Loop.{Goes, TellsLoop};
+ghost use Rattle.gateway_loop.specs.Loop.{Goes};
+ghost use Rattle.loop_model.specs.Whole.{TellsLoop};
 ghost use Rattle.std.specs.Prelude.{◌≡◌};
 
 use crate::comings::LookedUp;
@@ -40,7 +41,7 @@ impl<H: ReplyHook + Drop, W: Wire + Drop> EventLoop<H, W> {
         let Some(client) = self.exchanges.client_of(place) else {
             return self.drop_new(net, place, is_told);
         };
-        if !self.enlist(client, place) {
+        if !self.exchanges.enlist(client, place) {
             return self.lose(net, place, None);
         }
         if self.exchanges.is_over(place) {
@@ -62,14 +63,6 @@ impl<H: ReplyHook + Drop, W: Wire + Drop> EventLoop<H, W> {
         self.exchanges.lose(place, Some(Loss::NotWanted));
         let finished = self.exchanges.finish(place);
         tell_unasked(net, finished.map(|finished| finished.0), is_told);
-    }
-
-    /// Gives the exchange in that place to its client, and sets its deadline. False for want of memory.
-    fn enlist(&mut self, client: usize, place: usize) -> bool
-        ensures { self.new ≡ self.old }
-    {
-        let deadline = self.exchanges.deadline_of(place);
-        self.exchanges.enlist(client, place) && self.set_until(place, deadline)
     }
 
     /// Has the address of the exchange in that place looked up.
@@ -132,15 +125,14 @@ impl<H: ReplyHook + Drop, W: Wire + Drop> EventLoop<H, W> {
             match self.exchanges.step(place) {
                 Progress::Refused(kind) => loss = Loss::Write(kind),
                 Progress::Ended => return self.end(net, place),
-                Progress::Waits => return self.watch(net, place, false),
-                Progress::More => return self.watch(net, place, true),
+                Progress::Waits | Progress::More => return self.watch(net, place),
             }
         }
         self.lose(net, place, Some(loss));
     }
 
     /// Watches the new stream of the exchange in that place, and sets its time.
-    fn watch<N: Network<W>>(&mut self, net: &mut N, place: usize, more: bool)
+    fn watch<N: Network<W>>(&mut self, net: &mut N, place: usize)
         ensures goes { Goes self.old self.new }
         ensures told { TellsLoop (N.told net.old) (N.told net.new) self.old self.new }
     {
@@ -148,42 +140,33 @@ impl<H: ReplyHook + Drop, W: Wire + Drop> EventLoop<H, W> {
             return self.lose(net, place, Some(Loss::NotWatched));
         }
         let until = self.exchanges.attempt_until(place);
-        let deadline = self.exchanges.deadline_of(place);
-        if !self.set_until(place, until.or(deadline)) {
-            return self.lose(net, place, None);
-        }
-        if more {
-            self.line_up(exchange_token(place));
-        }
+        self.exchanges.set_until(place, until);
     }
 
-    /// The time of the exchange in that place is over: it is the next address's turn, or it is lost.
-    pub(crate) fn time_out<N: Network<W>>(&mut self, net: &mut N, place: usize)
+    /// Where the time of the exchange in that place is over, it is the next address's turn, or it is lost.
+    fn time_out<N: Network<W>>(&mut self, net: &mut N, place: usize)
         ensures goes { Goes self.old self.new }
         ensures told { TellsLoop (N.told net.old) (N.told net.new) self.old self.new }
     {
-        if self.exchanges.is_connected(place) || self.exchanges.is_late(place) {
+        if self.exchanges.is_late(place) {
             let loss = self.exchanges.loss_at_deadline(place);
             self.lose(net, place, Some(loss));
-        } else {
+        } else if self.exchanges.is_overdue(place) {
             self.try_next(net, place, Loss::Write(ErrorKind::TimedOut));
         }
     }
 
-    /// Writes and reads the stream of the exchange in that place.
+    /// Writes and reads the stream of the exchange in that place, and sees to its time. It is given up where nobody waits
+    /// for it.
     pub(crate) fn serve_exchange<N: Network<W>>(&mut self, net: &mut N, place: usize)
         ensures goes { Goes self.old self.new }
         ensures told { TellsLoop (N.told net.old) (N.told net.new) self.old self.new }
     {
-        let progress = self.exchanges.step(place);
-        // once its stream took a byte, it has all the time that its job has
-        let deadline = self.exchanges.deadline_of(place);
-        if self.exchanges.is_connected(place) && !self.set_until(place, deadline) {
-            return self.lose(net, place, None);
+        if !self.exchanges.is_wanted(place) {
+            return self.give_up(place);
         }
-        match progress {
-            Progress::Waits => {}
-            Progress::More => self.line_up(exchange_token(place)),
+        match self.exchanges.step(place) {
+            Progress::Waits | Progress::More => self.time_out(net, place),
             Progress::Refused(kind) => self.try_next(net, place, Loss::Write(kind)),
             Progress::Ended => self.end(net, place),
         }
@@ -223,7 +206,6 @@ impl<H: ReplyHook + Drop, W: Wire + Drop> EventLoop<H, W> {
         let asking = self.exchanges.asking(place)?;
         self.names
             .leave(asking.job().address(), asking.errand().waits);
-        let _stopped = self.roster.set_until(exchange_token(place), None);
         let (end, errand, stream) = self.exchanges.finish(place)?;
         let client = errand.client?;
         self.exchanges.forget_exchange(client, place);
@@ -233,14 +215,6 @@ impl<H: ReplyHook + Drop, W: Wire + Drop> EventLoop<H, W> {
         let until = self.clients().moment().saturating_add(CLOSING);
         self.closing.keep(stream, exchange_token(place), until);
         Some((client, call))
-    }
-
-    /// The exchange in that place goes on until then; None: as long as its backend lets it. False for want of memory.
-    fn set_until(&mut self, place: usize, until: Option<u64>) -> bool
-        ensures { self.new ≡ self.old }
-    {
-        !self.exchanges.set_until(place, until)
-            || self.roster.set_until(exchange_token(place), until)
     }
 
     /// The connection of a client was closed, which had these exchanges: they are given up.
@@ -302,19 +276,6 @@ impl<H: ReplyHook + Drop, W: Wire + Drop> EventLoop<H, W> {
         };
         self.exchanges.lose(place, Some(loss));
         let _ended = self.finish(place);
-    }
-
-    /// There is no memory to serve the exchange in that place: it is over, since else it would hang, and what that
-    /// decides is seen to.
-    pub(crate) fn starve_exchange(&mut self, place: usize)
-        ensures goes { Goes self.old self.new }
-        ensures told { self.new.side.told ≡ self.old.side.told }
-    {
-        self.exchanges.lose(place, None);
-        if let Some((client, _call)) = self.finish(place) {
-            self.note(client);
-            self.give_up_unwanted(client);
-        }
     }
 }
 

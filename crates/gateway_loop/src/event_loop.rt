@@ -10,13 +10,15 @@ use crate::clients::Clients;
 use crate::closing::ClosingStreams;
 use crate::ends::Ends;
 use crate::exchanges::Exchanges;
+use crate::limits::MOST_CLIENTS;
 use crate::names::Names;
-use crate::roster::Roster;
+use crate::next_turn::NextTurn;
 use crate::unasked::Unasked;
 use call_plan::Plans;
 use gateway_core::{ReplyHook, Tally};
 use http_pieces::Framing;
 use std::alloc::{AllocError, Global};
+use std::collections::VecDeque;
 use std::marker::Model;
 use wires::Wire;
 
@@ -40,11 +42,14 @@ pub struct LoopStanding {
 pub struct EventLoop<H, W: Wire> {
     pub(crate) alloc: Global,
     pub(crate) exchanges: Exchanges<H, W>,
-    pub(crate) roster: Roster,
     pub(crate) names: Names,
     pub(crate) ends: Ends,
     pub(crate) unasked: Unasked,
     pub(crate) closing: ClosingStreams<W>,
+    // the places of clients for whom something may be there
+    pub(crate) noted: VecDeque<usize>,
+    // what the last look told
+    pub(crate) next: NextTurn,
 }
 
 impl<H, W: Wire> Model for EventLoop<H, W> {
@@ -65,11 +70,12 @@ impl<H: ReplyHook + Drop, W: Wire + Drop> EventLoop<H, W> {
     {
         Ok(EventLoop {
             alloc,
-            roster: Roster::new(alloc)?,
             names: Names::new(alloc),
             ends: Ends::new(alloc)?,
             unasked: Unasked::new(alloc),
             closing: ClosingStreams::new(alloc)?,
+            noted: VecDeque::with_capacity(alloc, 2 * MOST_CLIENTS)?,
+            next: NextTurn::AtOnce,
             exchanges: Exchanges::new(alloc, plans, framing)?,
         })
     }

@@ -1,18 +1,19 @@
 ghost use Rattle.std.specs.Prelude.{◌≡◌, [], IfOk, IsFalse, IsTrue};
-ghost use Rattle.gateway_loop.specs.Loop.{Goes, StartsLoop, TellsLoop};
-ghost use Rattle.gateway_loop.specs.Rests.{AllAskingRest, WaitsForPlace, rests_asking};
+ghost use Rattle.gateway_loop.specs.Loop.{Goes, StartsLoop};
+ghost use Rattle.gateway_loop.specs.Rests.{AllAskingRest, WaitsForPlace, is_watched_as, rests_asking};
 ghost use Rattle.gateway_model.specs.History.{no_history};
 ghost use Rattle.gateway_theory.specs.Served.{Served};
 ghost use Rattle.gateway_theory.specs.Values.{shown};
 ghost use Rattle.loop_model.specs.Growing.{HasTicked};
+ghost use Rattle.loop_model.specs.Reports.{changed_at, tell, told_asking};
 ghost use Rattle.loop_model.specs.Rest.{RestsTill};
-ghost use Rattle.loop_model.specs.Whole.{IsExplainedLoop, draining_loop};
+ghost use Rattle.loop_model.specs.Whole.{IsExplainedLoop, TellsLoop, draining_loop};
 
 use crate::client::{Heard, Written};
 use crate::clients::Clients;
 use crate::comings::Dealt;
-use crate::limits::{ATTEMPT, MOST_EXCHANGES, is_due, is_not_after};
-use crate::tokens::{Owner, exchange_token, owner_of};
+use crate::limits::{ATTEMPT, MOST_EXCHANGES, is_due, is_not_after, places_with};
+use crate::tokens::{Owner, exchange_token, is_exchanges, owner_of};
 use branch_asking::{Asking, BranchEnd, Errand, Network, Progress};
 use branch_causes::Cause;
 use branch_exchange::Loss;
@@ -38,6 +39,8 @@ pub(crate) struct Exchanges<H, W: Wire> {
     framing: Framing,
     clients: Clients<H, W>,
     asking: Slab<Asking<W>>,
+    // so many places have exchanges, or had some since none was there
+    places: usize,
     // for proofs: those that ended, each with the outcome that was recorded
     ended: Log<Asking<W>, Option<Outcome>>,
 }
@@ -71,6 +74,7 @@ impl<H: ReplyHook + Drop, W: Wire + Drop> Exchanges<H, W> {
             alloc,
             framing,
             asking: Slab::with_capacity(alloc, MOST_EXCHANGES)?,
+            places: 0,
             clients: Clients::new(alloc, plans)?,
             ended: Log::new(),
         })
@@ -180,19 +184,30 @@ impl<H: ReplyHook + Drop, W: Wire + Drop> Exchanges<H, W> {
         self.asking.get(place).is_none_or(Asking::is_over)
     }
 
-    /// Whether the stream of the exchange in that place took a byte.
-    pub(crate) fn is_connected(&self, place: usize) -> bool {
-        matches!(self.asking.get(place), Some(asking) if asking.attempt().is_connected())
-    }
-
-    /// The deadline of the job that is asked for in that place.
-    pub(crate) fn deadline_of(&self, place: usize) -> Option<u64> {
-        self.asking.get(place)?.job().deadline()
-    }
-
-    /// Whether that deadline has come.
+    /// Whether the deadline has come of the job that is asked for in that place.
     pub(crate) fn is_late(&self, place: usize) -> bool {
-        is_due(self.deadline_of(place), self.clients.moment())
+        let asking = self.asking.get(place);
+        asking.is_some_and(|asking| is_due(asking.job().deadline(), self.clients.moment()))
+    }
+
+    /// Whether the time is over that the stream of the exchange in that place had to take a byte.
+    pub(crate) fn is_overdue(&self, place: usize) -> bool {
+        let asking = self.asking.get(place);
+        asking.is_some_and(|asking| is_due(asking.until(), self.clients.moment()))
+    }
+
+    /// So many places have exchanges, or had some since none was there.
+    pub(crate) fn places(&self) -> usize {
+        self.places
+    }
+
+    /// The first limit of a call, of an exchange, and of an address that has to accept.
+    pub(crate) fn next_until(&self) -> Option<u64> {
+        let asking = self.asking.iter();
+        let deadlines = self.clients.core().next_deadline().into_iter();
+        deadlines
+            .chain(asking.filter_map(|asking| first_limit(asking.1)))
+            .min()
     }
 
     /// Why the exchange in that place is lost where that deadline has come: its address has not accepted a connection, or
@@ -221,13 +236,17 @@ impl<H: ReplyHook + Drop, W: Wire + Drop> Exchanges<H, W> {
 
     /// Watches the stream of the exchange in that place. False where it can't be.
     pub(crate) fn watch<N: Network<W>>(&mut self, net: &mut N, place: usize) -> bool
-        ensures same { self.new ≡ self.old }
-        ensures told { N.told net.new ≡ N.told net.old }
+        ensures goes { Goes self.old self.new }
+        ensures told { self.new.side.told ≡ self.old.side.told }
+        ensures same { N.told net.new ≡ N.told net.old }
     {
-        match self.asking.get_mut(place) {
-            Some(asking) => asking.watch(net, exchange_token(place)),
-            None => false,
-        }
+        let Some(mut asking) = self.asking.try_remove(place) else {
+            return false;
+        };
+        let is_watched = asking.watch(net, exchange_token(place));
+        asking.begun_law();
+        let _place = self.asking.insert_reserved(asking);
+        is_watched
     }
 
     /// Takes the next job, which is asked for from now on: its place. None if none waits, or too many are asked for.
@@ -242,7 +261,9 @@ impl<H: ReplyHook + Drop, W: Wire + Drop> Exchanges<H, W> {
         let errand = Errand::new(self.clients.client_of(&job), self.clients.moment());
         let asking = Asking::new(self.alloc, self.framing, job, errand);
         asking.begun_law();
-        Some(self.asking.insert_reserved(asking))
+        let place = self.asking.insert_reserved(asking);
+        self.places = places_with(self.places, place, self.asking.len());
+        Some(place)
     }
 
     /// The exchange in that place writes what it can, and then reads what it can.
@@ -346,8 +367,9 @@ impl<H: ReplyHook + Drop, W: Wire + Drop> Exchanges<H, W> {
 impl<H: ReplyHook + Drop, W: Wire + Drop> Exchanges<H, W> {
     /// Watches the stream of the client in that place. False where it can't be.
     pub(crate) fn watch_client<N: Network<W>>(&mut self, net: &mut N, place: usize) -> bool
-        ensures same { self.new ≡ self.old }
-        ensures told { N.told net.new ≡ N.told net.old }
+        ensures goes { Goes self.old self.new }
+        ensures told { self.new.side.told ≡ self.old.side.told }
+        ensures same { N.told net.new ≡ N.told net.old }
     {
         self.clients.watch(net, place)
     }
@@ -355,8 +377,8 @@ impl<H: ReplyHook + Drop, W: Wire + Drop> Exchanges<H, W> {
     /// Something became possible at the stream of whom the token names; whether that may be told of another's, too, that
     /// had the token before.
     pub(crate) fn note_ready(&mut self, ready: Ready, is_shared: bool)
+        ensures exact { self.new ≡ tell ready self.old }
         ensures goes { Goes self.old self.new }
-        ensures told { self.new.side.told ≡ self.old.side.told }
     {
         match owner_of(ready.token) {
             Owner::Client(place) => self.clients.note_ready(place, ready),
@@ -366,21 +388,19 @@ impl<H: ReplyHook + Drop, W: Wire + Drop> Exchanges<H, W> {
 
     /// Something became possible at the stream of the exchange in that place; whether that may be told of another's, too.
     fn report(&mut self, place: usize, ready: Ready, is_shared: bool)
+        ensures exact { self.new ≡ record self.old { asking = changed_at (told_asking ready) place self.old.asking } }
         ensures goes { Goes self.old self.new }
-        ensures told { self.new.side.told ≡ self.old.side.told }
     {
-        let Some(mut asking) = self.asking.try_remove(place) else {
-            return;
-        };
-        asking.report(ready, is_shared);
-        asking.begun_law();
-        let _place = self.asking.insert_reserved(asking);
+        if let Some(asking) = self.asking.get_mut(place) {
+            asking.report(ready, is_shared);
+            asking.begun_law();
+        }
     }
 
     /// Whether nothing is to be done for the job in that place before that moment.
     pub(crate) fn rests(&self, place: usize, until: Option<u64>) -> bool {
         let asking = self.asking.get(place);
-        asking.is_none_or(|asking| rests(self.clients.core(), asking, until))
+        asking.is_none_or(|asking| rests(self.clients.core(), asking, until, place))
     }
 
     /// Whether nothing is to be done before that moment: for no client, and for no job that is asked for; a job waits
@@ -413,20 +433,7 @@ impl<H: ReplyHook + Drop, W: Wire + Drop> Exchanges<H, W> {
     {
         let core = self.clients.core();
         let mut asking = self.asking.iter();
-        asking.all(|asking| rests(core, asking.1, until))
-    }
-
-    /// Whether who has that place is in the line from now on. Answers whether it was; true where nobody is there.
-    pub(crate) fn set_in_line(&mut self, owner: Owner, is_in_line: bool) -> bool
-        ensures { self.new ≡ self.old }
-    {
-        match owner {
-            Owner::Client(place) => self.clients.set_in_line(place, is_in_line),
-            Owner::Exchange(place) => match self.asking.get_mut(place) {
-                Some(asking) => asking.errand_mut().set_in_line(is_in_line),
-                None => true,
-            },
-        }
+        asking.all(|asking| rests(core, asking.1, until, asking.0))
     }
 
     /// Whether the client in that place is among those that may have news from now on. Answers whether it was; true
@@ -465,14 +472,17 @@ impl<H: ReplyHook + Drop, W: Wire + Drop> Exchanges<H, W> {
         self.clients.take_exchanges(place)
     }
 
-    /// The exchange in that place goes on until then. Answers whether that is new.
-    pub(crate) fn set_until(&mut self, place: usize, until: Option<u64>) -> bool
-        ensures { self.new ≡ self.old }
+    /// The stream of the exchange in that place has to take a byte until then, where another address follows.
+    pub(crate) fn set_until(&mut self, place: usize, until: Option<u64>)
+        ensures goes { Goes self.old self.new }
+        ensures told { self.new.side.told ≡ self.old.side.told }
     {
-        match self.asking.get_mut(place) {
-            Some(asking) => asking.errand_mut().set_until(until),
-            None => false,
-        }
+        let Some(mut asking) = self.asking.try_remove(place) else {
+            return;
+        };
+        asking.set_until(until);
+        asking.begun_law();
+        let _place = self.asking.insert_reserved(asking);
     }
 
     /// The exchange in that place waits for its name under this number, or no more.
@@ -494,14 +504,35 @@ impl<H: ReplyHook + Drop, W: Wire + Drop> Exchanges<H, W> {
     }
 }
 
-/// Whether nothing is to be done for the job before that moment.
+/// Whether nothing is to be done for the job, in that place, before that moment.
 fn rests<H: ReplyHook + Drop, W: Wire>(
     core: &Core<H>,
     asking: &Asking<W>,
     until: Option<u64>,
+    place: usize,
 ) -> bool
-    ensures { result ≡ rests_asking (shown core.now) until asking.now }
+    ensures { result ≡ rests_asking (shown core.now) until place asking.now }
 {
     let job = asking.job();
-    core.is_wanted(&job.call()) && asking.rests() && is_not_after(until, job.deadline())
+    asking.rests()
+        && is_watched(asking, place)
+        && is_not_after(until, asking.until())
+        && is_not_after(until, job.deadline())
+        && core.is_wanted(&job.call())
+}
+
+/// Whether the stream of the job, if it is watched, is watched by the token of that place.
+fn is_watched<W: Wire>(asking: &Asking<W>, place: usize) -> bool
+    ensures { result ≡ is_watched_as place asking.now.attempt.watched }
+{
+    match asking.watched() {
+        Some((token, _for_writes)) => is_exchanges(token, place),
+        None => true,
+    }
+}
+
+/// The first limit of the job: its deadline, or until when its stream has to take a byte.
+fn first_limit<W: Wire>(asking: &Asking<W>) -> Option<u64> {
+    let limits = asking.until().into_iter();
+    limits.chain(asking.job().deadline()).min()
 }

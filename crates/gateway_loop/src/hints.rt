@@ -6,8 +6,6 @@ use std::mem;
 pub(crate) struct Hints {
     // the places of the exchanges for its calls, in no order
     pub(crate) exchanges: Vec<usize>,
-    // whether it is in the line of those that are to be served
-    pub(crate) is_in_line: bool,
     // whether it is among those that may have news
     pub(crate) is_noted: bool,
     // whether the last piece that it brought made no request, so that one may be half read
@@ -19,15 +17,9 @@ impl Hints {
     pub(crate) fn new(alloc: Global) -> Hints {
         Hints {
             exchanges: Vec::new(alloc),
-            is_in_line: false,
             is_noted: false,
             is_half_read: false,
         }
-    }
-
-    /// Whether it is in the line from now on. Answers whether it was.
-    pub(crate) fn set_in_line(&mut self, is_in_line: bool) -> bool {
-        mem::replace(&mut self.is_in_line, is_in_line)
     }
 
     /// Whether it is among those that may have news from now on. Answers whether it was.

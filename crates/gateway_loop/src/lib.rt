@@ -16,7 +16,6 @@ mod limits;
 mod names;
 mod next_turn;
 mod rest;
-mod roster;
 mod serving;
 mod tokens;
 mod turn;

@@ -16,9 +16,6 @@ pub const MOST_ADDRESSES: usize = 32;
 /// Places for clients: of the connections that are open, of which a core has at most 64, and of those that linger.
 pub(crate) const MOST_CLIENTS: usize = 128;
 
-/// Timers that are set at most: one for each exchange, and one for each client that lingers.
-pub(crate) const MOST_TIMERS: usize = MOST_EXCHANGES + MOST_CLIENTS;
-
 /// So often a client's stream is written in a turn at most.
 pub(crate) const MOST_WRITES: u32 = 16;
 
@@ -48,4 +45,11 @@ pub(crate) fn is_not_after(moment: Option<u64>, limit: Option<u64>) -> bool
 /// Whether the deadline has come.
 pub(crate) fn is_due(deadline: Option<u64>, moment: u64) -> bool {
     matches!(deadline, Some(deadline) if deadline <= moment)
+}
+
+/// How many places are looked at: as many as before, and this one, which was taken. Where it is the only one that is,
+/// only those up to it.
+pub(crate) fn places_with(before: usize, place: usize, taken: usize) -> usize {
+    let with = place.saturating_add(1);
+    if taken == 1 { with } else { before.max(with) }
 }

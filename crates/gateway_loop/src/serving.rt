@@ -1,12 +1,11 @@
-ghost use Rattle.gateway_loop.specs.Loop.{Goes, TellsLoop};
-ghost use Rattle.loop_model.specs.Whole.{ContinuesLoop};
+ghost use Rattle.gateway_loop.specs.Loop.{Goes};
+ghost use Rattle.loop_model.specs.Whole.{ContinuesLoop, TellsLoop};
 ghost use Rattle.std.specs.Prelude.{◌≡◌};
 
 use crate::client::{Heard, Written};
 use crate::comings::Dealt;
 use crate::event_loop::EventLoop;
-use crate::limits::{LINGER, MOST_LINGERING};
-use crate::tokens::client_token;
+use crate::limits::{LINGER, MOST_CLIENTS, MOST_LINGERING};
 use branch_asking::Network;
 use gateway_core::ReplyHook;
 use std::collections::VecDeque;
@@ -43,16 +42,12 @@ impl<H: ReplyHook + Drop, W: Wire + Drop> EventLoop<H, W> {
         }
     }
 
-    /// Something may be there for the client in that place.
+    /// Something may be there for the client in that place. For want of memory it is not noted, but found by a look.
     pub(crate) fn note(&mut self, place: usize)
-        ensures goes { Goes self.old self.new }
-        ensures told { self.new.side.told ≡ self.old.side.told }
+        ensures { self.new ≡ self.old }
     {
-        if self.exchanges.set_noted(place, true) {
-            return;
-        }
-        if !self.roster.note(place) {
-            self.drop_client(place);
+        if !self.exchanges.set_noted(place, true) && self.noted.push_back(place).is_err() {
+            let _was_noted = self.exchanges.set_noted(place, false);
         }
     }
 
@@ -60,12 +55,12 @@ impl<H: ReplyHook + Drop, W: Wire + Drop> EventLoop<H, W> {
     fn next_noted(&mut self) -> Option<usize>
         ensures { self.new ≡ self.old }
     {
-        let place = self.roster.next_noted()?;
+        let place = self.noted.pop_front()?;
         let _was_noted = self.exchanges.set_noted(place, false);
         Some(place)
     }
 
-    /// Reads the client's stream once, if it is to be read.
+    /// Reads the client's stream once, if it is to be read. One that lingered long enough goes.
     pub(crate) fn serve_client<N: Network<W>>(&mut self, net: &mut N, place: usize)
         ensures goes { Goes self.old self.new }
         ensures told { TellsLoop (N.told net.old) (N.told net.new) self.old self.new }
@@ -73,7 +68,7 @@ impl<H: ReplyHook + Drop, W: Wire + Drop> EventLoop<H, W> {
         // before what it brings
         self.tick(net);
         let heard = self.read_client(place);
-        if heard == Heard::End && self.clients().lingers(place) {
+        if self.clients().is_to_go(place) {
             return self.drop_client(place);
         }
         if matches!(heard, Heard::Broke | Heard::End) {
@@ -105,13 +100,15 @@ impl<H: ReplyHook + Drop, W: Wire + Drop> EventLoop<H, W> {
         ensures goes { Goes self.old self.new }
         ensures told { TellsLoop (N.told net.old) (N.told net.new) self.old self.new }
     {
-        let count = self.roster.noted_len();
-        for _client in 0..count {
-            if let Some(place) = self.next_noted() {
-                self.write_client(net, place);
-            }
+        let mut has_written = false;
+        for _client in 0..MOST_CLIENTS {
+            let Some(place) = self.next_noted() else {
+                break;
+            };
+            self.write_client(net, place);
+            has_written = true;
         }
-        count > 0
+        has_written
     }
 
     /// Writes the replies that are there to the client in that place, and lets it leave if nothing more comes.
@@ -120,9 +117,6 @@ impl<H: ReplyHook + Drop, W: Wire + Drop> EventLoop<H, W> {
         ensures told { TellsLoop (N.told net.old) (N.told net.new) self.old self.new }
     {
         if self.clients().lingers(place) {
-            if self.clients().is_to_be_read(place) {
-                self.line_up(client_token(place));
-            }
             return;
         }
         let written = self.exchanges.write(net, place);
@@ -132,8 +126,6 @@ impl<H: ReplyHook + Drop, W: Wire + Drop> EventLoop<H, W> {
         } else if self.clients().is_to_leave(place) {
             self.clients().tell_broken(net, place);
             self.leave(place);
-        } else if written == Written::More || self.clients().is_to_be_read(place) {
-            self.line_up(client_token(place));
         }
     }
 
@@ -162,10 +154,8 @@ impl<H: ReplyHook + Drop, W: Wire + Drop> EventLoop<H, W> {
         let exchanges = self.exchanges.take_exchanges(place);
         self.exchanges.leave(place, until);
         self.give_up_all(exchanges);
-        if !lingers || !self.roster.set_until(client_token(place), Some(until)) {
+        if !lingers {
             self.drop_client(place);
-        } else if self.clients().is_to_be_read(place) {
-            self.line_up(client_token(place));
         }
     }
 
@@ -176,7 +166,6 @@ impl<H: ReplyHook + Drop, W: Wire + Drop> EventLoop<H, W> {
     {
         let exchanges = self.exchanges.take_exchanges(place);
         self.exchanges.let_go(place);
-        let _stopped = self.roster.set_until(client_token(place), None);
         self.give_up_all(exchanges);
     }
 }

@@ -1,3 +1,6 @@
+ghost use Rattle.std.specs.Prelude.{◌≡◌, ◌==◌, ◌/◌, ◌%◌};
+ghost use Rattle.gateway_loop.specs.Rests.{is_clients, is_exchanges, owner_as};
+
 /// What a token names: the place of a client, or that of an exchange.
 #[derive(Clone, Copy)]
 pub(crate) enum Owner {
@@ -16,7 +19,9 @@ pub(crate) fn exchange_token(place: usize) -> usize {
 }
 
 /// What the token names.
-pub(crate) fn owner_of(token: usize) -> Owner {
+pub(crate) fn owner_of(token: usize) -> Owner
+    ensures { result ≡ owner_as (token % 2 == 0) (token / 2) }
+{
     let place = token / 2;
     if token % 2 == 0 {
         Owner::Client(place)
@@ -25,7 +30,16 @@ pub(crate) fn owner_of(token: usize) -> Owner {
     }
 }
 
-/// The id of the timer of whom the token names.
-pub(crate) fn timer_id(token: usize) -> u64 {
-    u64::try_from(token).unwrap_or(u64::MAX)
+/// Whether the token is that of the client in that place.
+pub(crate) fn is_clients(token: usize, place: usize) -> bool
+    ensures { result ≡ is_clients token place }
+{
+    token % 2 == 0 && token / 2 == place
+}
+
+/// Whether the token is that of the exchange in that place.
+pub(crate) fn is_exchanges(token: usize, place: usize) -> bool
+    ensures { result ≡ is_exchanges token place }
+{
+    token % 2 == 1 && token / 2 == place
 }

@@ -1,15 +1,16 @@
-ghost use Rattle.gateway_loop.specs.Loop.{Goes, TellsLoop};
+ghost use Rattle.gateway_loop.specs.Loop.{Goes};
 ghost use Rattle.loop_model.specs.Growing.{HasTicked};
-ghost use Rattle.loop_model.specs.Whole.{ContinuesLoop, draining_loop};
+ghost use Rattle.loop_model.specs.Reports.{tell_all};
+ghost use Rattle.loop_model.specs.Whole.{ContinuesLoop, TellsLoop, draining_loop};
 ghost use Rattle.std.specs.Prelude.{◌≡◌};
 
 use crate::comings::Comings;
 use crate::event_loop::EventLoop;
-use crate::limits::{MOST_CLIENTS, MOST_STARTS, MOST_TIMERS};
+use crate::limits::MOST_STARTS;
 use crate::tokens::{Owner, owner_of};
 use branch_asking::Network;
 use gateway_core::ReplyHook;
-use wires::Wire;
+use wires::{Ready, Wire};
 
 #[tactic(auto, using(crate::proofs::AskLemmas::going))]
 impl<H: ReplyHook + Drop, W: Wire + Drop> EventLoop<H, W> {
@@ -17,18 +18,20 @@ impl<H: ReplyHook + Drop, W: Wire + Drop> EventLoop<H, W> {
     /// another is due.
     pub fn turn<N: Network<W>>(&mut self, net: &mut N, comings: &mut Comings<H, W>)
         ensures continues { ContinuesLoop self.old self.new }
+        ensures reports { ContinuesLoop (tell_all comings.old.ready.items self.old) self.new }
         ensures told { TellsLoop (N.told net.old) (N.told net.new) self.old self.new }
         ensures ticks { HasTicked self.old.side self.new.side }
     {
-        let is_unasked = comings.is_empty() && !self.has_more();
+        self.note_reports(comings.ready.as_slice());
         self.tick(net);
-        self.take_comings(net, comings);
-        if is_unasked {
-            // a limit has come, or something was overlooked
-            self.look_round();
+        self.admit_all(net, &mut comings.streams);
+        self.take_found(net, &mut comings.found);
+        self.serve_ready(net, &mut comings.ready);
+        if self.is_restless() {
+            self.serve_restless(net);
         }
-        self.serve_line(net);
-        self.expire(net);
+        let moment = self.clients().moment();
+        self.closing.expire(moment);
         self.settle(net);
     }
 
@@ -44,58 +47,61 @@ impl<H: ReplyHook + Drop, W: Wire + Drop> EventLoop<H, W> {
         }
     }
 
-    /// Takes what the last wait brought.
-    fn take_comings<N: Network<W>>(&mut self, net: &mut N, comings: &mut Comings<H, W>)
+    /// Tells each report to the stream of its token.
+    fn note_reports(&mut self, reports: &[Ready])
+        ensures exact { self.new ≡ tell_all reports.now self.old }
         ensures goes { Goes self.old self.new }
-        ensures told { TellsLoop (N.told net.old) (N.told net.new) self.old self.new }
     {
-        self.admit_all(net, &mut comings.streams);
-        self.take_found(net, &mut comings.found);
-        for ready in comings.ready.drain(..) {
-            let is_shared = self.closing.note_ready(ready);
-            self.exchanges.note_ready(ready, is_shared);
-            self.line_up(ready.token);
+        for ready in reports {
+            let is_shared = self.closing.note_ready(*ready);
+            self.exchanges.note_ready(*ready, is_shared);
         }
     }
 
-    /// Serves those that stand in the line now, each once.
-    fn serve_line<N: Network<W>>(&mut self, net: &mut N)
+    /// Serves those of whom the wait told, in that order: so what came first comes first.
+    fn serve_ready<N: Network<W>>(&mut self, net: &mut N, ready: &mut Vec<Ready>)
         ensures goes { Goes self.old self.new }
         ensures told { TellsLoop (N.told net.old) (N.told net.new) self.old self.new }
     {
-        for _token in 0..self.roster.line_len() {
-            let Some(owner) = self.next_in_line() else {
-                return;
-            };
-            match owner {
+        for ready in ready.drain(..) {
+            match owner_of(ready.token) {
                 Owner::Client(place) => self.serve_client(net, place),
                 Owner::Exchange(place) => self.serve_exchange(net, place),
             }
         }
     }
 
-    /// Ends the exchanges whose time is over, and lets go of clients and streams that waited long enough.
-    fn expire<N: Network<W>>(&mut self, net: &mut N)
+    /// Serves all for whom something is left to be done.
+    fn serve_restless<N: Network<W>>(&mut self, net: &mut N)
         ensures goes { Goes self.old self.new }
         ensures told { TellsLoop (N.told net.old) (N.told net.new) self.old self.new }
     {
-        let moment = self.clients().moment();
-        self.closing.expire(moment);
-        self.expire_timers(net);
+        self.serve_exchanges(net);
+        self.serve_clients(net);
     }
 
-    /// Ends the exchanges whose time is over, and lets go of clients that lingered long enough.
-    fn expire_timers<N: Network<W>>(&mut self, net: &mut N)
+    /// Serves each exchange for which something is left to be done.
+    fn serve_exchanges<N: Network<W>>(&mut self, net: &mut N)
         ensures goes { Goes self.old self.new }
         ensures told { TellsLoop (N.told net.old) (N.told net.new) self.old self.new }
     {
-        for _timer in 0..MOST_TIMERS {
-            let Some(owner) = self.pop_due() else {
-                return;
-            };
-            match owner {
-                Owner::Client(place) => self.drop_client(place),
-                Owner::Exchange(place) => self.time_out(net, place),
+        let soon = self.clients().moment().saturating_add(1);
+        for place in 0..self.exchanges.places() {
+            if !self.exchanges.rests(place, Some(soon)) {
+                self.serve_exchange(net, place);
+            }
+        }
+    }
+
+    /// Serves each client for whom something is left to be done.
+    fn serve_clients<N: Network<W>>(&mut self, net: &mut N)
+        ensures goes { Goes self.old self.new }
+        ensures told { TellsLoop (N.told net.old) (N.told net.new) self.old self.new }
+    {
+        let soon = self.clients().moment().saturating_add(1);
+        for place in 0..self.clients().places() {
+            if !self.clients().rests(place, Some(soon)) {
+                self.serve_client(net, place);
             }
         }
     }
@@ -134,51 +140,12 @@ impl<H: ReplyHook + Drop, W: Wire + Drop> EventLoop<H, W> {
         ensures goes { Goes self.old self.new }
         ensures told { self.new.side.told ≡ self.old.side.told }
     {
-        for place in 0..MOST_CLIENTS {
+        for place in 0..self.clients().places() {
             if self.clients().has_news(place) {
                 self.note(place);
             }
             // also where a call ended behind an undecided one, which shows by nothing else
             self.give_up_unwanted(place);
         }
-    }
-
-    /// Whom the token names is to be served. Where there is no memory for that it is let go, since it would hang.
-    pub(crate) fn line_up(&mut self, token: usize)
-        ensures goes { Goes self.old self.new }
-        ensures told { self.new.side.told ≡ self.old.side.told }
-    {
-        let owner = owner_of(token);
-        if self.exchanges.set_in_line(owner, true) {
-            return;
-        }
-        if self.roster.line_up(token) {
-            return;
-        }
-        match owner {
-            Owner::Client(place) => self.drop_client(place),
-            Owner::Exchange(place) => self.starve_exchange(place),
-        }
-    }
-
-    /// Takes the first out of the line.
-    fn next_in_line(&mut self) -> Option<Owner>
-        ensures { self.new ≡ self.old }
-    {
-        let owner = self.roster.next_in_line()?;
-        let _was_in_line = self.exchanges.set_in_line(owner, false);
-        Some(owner)
-    }
-
-    /// One whose time is over. It has no time limit any more.
-    fn pop_due(&mut self) -> Option<Owner>
-        ensures { self.new ≡ self.old }
-    {
-        let moment = self.clients().moment();
-        let owner = self.roster.pop_due(moment)?;
-        if let Owner::Exchange(place) = owner {
-            let _was_timed = self.exchanges.set_until(place, None);
-        }
-        Some(owner)
     }
 }

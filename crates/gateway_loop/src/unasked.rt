@@ -1,4 +1,5 @@
-ghost use Rattle.gateway_loop.specs.Loop.{Goes, TellsLoop};
+ghost use Rattle.gateway_loop.specs.Loop.{Goes};
+ghost use Rattle.loop_model.specs.Whole.{TellsLoop};
 ghost use Rattle.std.specs.Prelude.{◌≡◌};
 
 use crate::event_loop::EventLoop;

@@ -11,6 +11,7 @@ use Rattle.http_pieces.specs.Cut.{Complete, IsCut}
 use Rattle.http_pieces.specs.ReplyHead.{reply_kind}
 use Rattle.http_pieces.specs.declared.framing.Framing.{Framing}
 use Rattle.http_pieces.specs.declared.reply.HttpReply.{HttpReply}
+use Rattle.wires.specs.declared.ready.Ready.{Ready}
 
 -- a stream to a backend: the address that it leads to, what was read from it, what was written to it, and whether a read found its end,
 -- or failed
@@ -35,6 +36,11 @@ pub record AskingValue : Type 0 where
   -- by all that was reported of that stream and answered: whether a read may bring something, and whether a write may be taken
   pub reads : Bool
   pub writes : Bool
+  -- by what token that stream is watched, and whether for room to write too; all that was reported of it, in order; and until when it has
+  -- to take a byte, where another address follows
+  pub watched : Option (ℕ × Bool)
+  pub reported : List Ready
+  pub until : Option ℕ
   -- whether it has ended, and its outcome is to be recorded
   pub over : Bool
 

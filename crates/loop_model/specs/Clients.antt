@@ -6,6 +6,7 @@ use Rattle.gateway_model.specs.History.{History}
 use Rattle.gateway_model.specs.Past.{marked}
 use Rattle.gateway_model.specs.Queue.{IsPrefixOf, queued}
 use Rattle.gateway_model.specs.Starts.{Placed, occurrences}
+use Rattle.wires.specs.declared.ready.Ready.{Ready}
 
 -- a client's stream with its connection
 pub record ClientValue : Type 0 where
@@ -22,11 +23,14 @@ pub record ClientValue : Type 0 where
   -- by all that was reported and answered: whether a read may bring something, and whether a write may be taken
   pub reads : Bool
   pub writes : Bool
+  -- by what token it is watched, and whether for room to write too; and all that was reported of it, in order
+  pub watched : Option (ℕ × Bool)
+  pub reported : List Ready
   -- until when it lingers at most
   pub until : Option ℕ
 
-abbrev pub client_value : ℕ → Bool → List ℕ → List ℕ → Bool → List ℕ → Bool → Bool → Option ℕ → ClientValue
-client_value conn lingers given got ended waiting reads writes until = record {
+abbrev pub client_value : ℕ → Bool → List ℕ → List ℕ → Bool → List ℕ → Bool → Bool → Option (ℕ × Bool) → List Ready → Option ℕ → ClientValue
+client_value conn lingers given got ended waiting reads writes watched reported until = record {
   conn = conn;
   lingers = lingers;
   given = given;
@@ -35,6 +39,8 @@ client_value conn lingers given got ended waiting reads writes until = record {
   waiting = waiting;
   reads = reads;
   writes = writes;
+  watched = watched;
+  reported = reported;
   until = until;
 }
 

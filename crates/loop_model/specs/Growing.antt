@@ -5,11 +5,12 @@ use Rattle.gateway_model.specs.Queue.{IsPrefixOf}
 use Rattle.loop_model.specs.Clients.{ClientValue}
 use Rattle.loop_model.specs.Explained.{LoopValue, at}
 
--- the same client, from which more may have been read, and to which more may have been written
+-- the same client, from which more may have been read, to which more may have been written, and of which more may have been reported
 pub record Grows (x y : ClientValue) : Type 0 where
   pub conn : y.conn ≡ x.conn
   pub given : IsPrefixOf x.given y.given
   pub got : IsPrefixOf x.got y.got
+  pub reported : IsPrefixOf x.reported y.reported
 
 -- the client is in that place, or has gone
 abbrev pub Remains : LoopValue → ℕ → ClientValue → Type 0
@@ -29,3 +30,7 @@ pub record Continues (v w : LoopValue) : Type 0 where
 -- a moment was told, and then more
 abbrev pub HasTicked : LoopValue → LoopValue → Type 0
 HasTicked v w = (moment : ℕ) × (more : List ℕ) × (w.told ≡ v.told ++ moment ∷ more)
+
+-- the loop was told what the clock told
+abbrev pub Tells : List ℕ → List ℕ → LoopValue → LoopValue → Type 0
+Tells before after v w = (u : List ℕ) → before ≡ u ++ v.told → after ≡ u ++ w.told

@@ -6,3 +6,4 @@ pub mod Standing
 pub mod Asking
 pub mod Whole
 pub mod Rest
+pub mod Reports

@@ -7,7 +7,7 @@ use Rattle.gateway_model.specs.Queue.{IsPrefixOf}
 use Rattle.http_pieces.specs.declared.framing.Framing.{Framing}
 use Rattle.loop_model.specs.Asking.{AskingValue, BeginsRequest, EndedValue, IsFair, StreamValue, ended_value}
 use Rattle.loop_model.specs.Explained.{IsExplained, LoopValue, draining}
-use Rattle.loop_model.specs.Growing.{Continues}
+use Rattle.loop_model.specs.Growing.{Continues, Tells}
 
 -- what is seen of a loop: how replies of its backends may be framed, its clients' side, the jobs that are asked for, in their places, and
 -- those that were, in the order in which they ended
@@ -44,12 +44,14 @@ pub record IsExplainedLoop (w : WholeLoop) : Type 0 where
 
 -- ---- what only grows
 
--- it goes over the same stream, or over its first, from which more may have been read, and to which more may have been written
+-- it goes over the same stream, or over its first, from which more may have been read, to which more may have been written, and of which
+-- more may have been reported
 pub record KeepsStream (x y : AskingValue) : Type 0 where
   pub tried : y.tried ≡ x.tried
   pub peer : (x.peer ≡ None) ⊎ (y.peer ≡ x.peer)
   pub given : IsPrefixOf x.given y.given
   pub got : IsPrefixOf x.got y.got
+  pub reported : (x.peer ≡ None) ⊎ IsPrefixOf x.reported y.reported
 
 -- that stream was given up since, with all that had been read from it and written to it
 pub record GivesUpStream (x y : AskingValue) : Type 0 where
@@ -81,3 +83,7 @@ pub record ContinuesLoop (v w : WholeLoop) : Type 0 where
   pub asking : (i : ℕ) (x : AskingValue) → asked_at i v.asking ≡ Some x
       → (y : AskingValue) × ((asked_at i w.asking ≡ Some y) ⊎ HasEndedSince v w y) × AsksOn x y
   pub ended : IsPrefixOf v.ended w.ended
+
+-- the loop was told what the clock told
+abbrev pub TellsLoop : List ℕ → List ℕ → WholeLoop → WholeLoop → Type 0
+TellsLoop before after v w = Tells before after v.side w.side

@@ -23,6 +23,7 @@ use Rattle.loop_model.specs.Clients.{ClientValue, client_value}
 use Rattle.loop_model.specs.Explained.{LoopValue}
 use Rattle.loop_model.specs.Handed.{ResultValue}
 use Rattle.loop_model.specs.Whole.{WholeLoop}
+use Rattle.wires.specs.declared.ready.Ready.{Ready}
 
 -- these events after two openings that succeeded
 abbrev pub after : Before → History
@@ -37,15 +38,15 @@ result_of conn request branch outcome = record { call = call_id conn request; br
 
 -- that job is asked for, and nothing was done for it yet
 abbrev pub asking : JobValue → AskingValue
-asking job = record { job = job; found = []; tried = []; peer = None; given = []; got = []; reads = false; writes = false; over = false }
+asking job = record { job = job; found = []; tried = []; peer = None; given = []; got = []; reads = false; writes = false; watched = None; reported = []; until = None; over = false }
 
 -- it is asked for so, over a stream to this address, which was found for its name behind those that were tried
 abbrev pub asked : SocketAddr → JobValue → List StreamValue → List ℕ → List ℕ → AskingValue
-asked a job tried given got = record { job = job; found = map (λ (s : StreamValue). s.peer) tried ++ a ∷ []; tried = tried; peer = Some a; given = given; got = got; reads = false; writes = false; over = false }
+asked a job tried given got = record { job = job; found = map (λ (s : StreamValue). s.peer) tried ++ a ∷ []; tried = tried; peer = Some a; given = given; got = got; reads = false; writes = false; watched = None; reported = []; until = None; over = false }
 
 -- .. over a stream to this address, where these were found for its name
 abbrev pub asked_at_peer : SocketAddr → List SocketAddr → JobValue → AskingValue
-asked_at_peer peer found job = record { job = job; found = found; tried = []; peer = Some peer; given = []; got = []; reads = false; writes = false; over = false }
+asked_at_peer peer found job = record { job = job; found = found; tried = []; peer = Some peer; given = []; got = []; reads = false; writes = false; watched = None; reported = []; until = None; over = false }
 
 -- it was asked for so, and that was recorded of it
 abbrev pub ended : SocketAddr → JobValue → List StreamValue → List ℕ → List ℕ → Option Outcome → EndedValue
@@ -53,7 +54,7 @@ ended a job tried given got outcome = ended_value (asked a job tried given got) 
 
 -- a client of that connection: whether it lingers, what was read and written, whether a read found its end, and what waits to be written
 abbrev pub client_with : ℕ → Bool → List ℕ → List ℕ → Bool → List ℕ → ClientValue
-client_with conn lingers given got ended waiting = client_value conn lingers given got ended waiting false false None
+client_with conn lingers given got ended waiting = client_value conn lingers given got ended waiting false false None [] None
 
 -- .. of whom nothing came
 abbrev pub client_of : ℕ → ClientValue
@@ -93,17 +94,35 @@ pub record IsReplyInChunks (text : List ℕ) (reply : HttpReply) : Type 0 where
   pub fault : ReplyFault
   pub not_taken : IsCut (reply_kind framing.Fixed) text (Refused fault)
 
--- a client of connection 0 that brought nothing: what waits for it, whether it may be read and written
+-- a client of connection 0 in place 0 that brought nothing: what waits for it, whether it may be read and written
 abbrev pub standing_client : List ℕ → Bool → Bool → ClientValue
-standing_client waiting reads writes = client_value 0 false [] [] false waiting reads writes None
+standing_client waiting reads writes = client_value 0 false [] [] false waiting reads writes (Some (0, true)) [] None
 
 -- .. that lingers: whether its end was found, whether it may be read, and until when
 abbrev pub lingering_client : Bool → Bool → Option ℕ → ClientValue
-lingering_client ended reads until = client_value 0 true [] [] ended [] reads true until
+lingering_client ended reads until = client_value 0 true [] [] ended [] reads true (Some (0, true)) [] until
+
+-- .. to whom nothing is owed, watched so
+abbrev pub watched_client : Option (ℕ × Bool) → ClientValue
+watched_client watched = client_value 0 false [] [] false [] false true watched [] None
 
 -- that job is asked for, so much of its request was written, and this may be done at its stream; and whether it has ended
 abbrev pub standing_job : JobValue → List ℕ → Bool → Bool → Bool → AskingValue
-standing_job job got reads writes over = record { job = job; found = []; tried = []; peer = None; given = []; got = got; reads = reads; writes = writes; over = over }
+standing_job job got reads writes over =
+    record { job = job; found = []; tried = []; peer = None; given = []; got = got; reads = reads; writes = writes; watched = None; reported = []; until = None; over = over }
+
+-- .. over a stream to this address, at which nothing may be done, and which is watched so; and until when it has to take a byte
+abbrev pub watched_job : SocketAddr → JobValue → List ℕ → Option (ℕ × Bool) → Option ℕ → AskingValue
+watched_job a job got watched until =
+    record { job = job; found = []; tried = []; peer = Some a; given = []; got = got; reads = false; writes = false; watched = watched; reported = []; until = until; over = false }
+
+-- a read may bring something at the stream of that token
+abbrev pub readable : ℕ → Ready
+readable token = record { token = token; readable = true; writable = false; read_closed = false; urgent = false }
+
+-- a loop with these clients, which asks for these jobs
+abbrev pub loop_with : GatewayValue → List (Option ClientValue) → List (Option AskingValue) → WholeLoop
+loop_with core clients asking = record { framing = framing.Fixed; side = with_clients core clients []; asking = asking; ended = [] }
 
 -- nothing is there for connection 0, which goes on
 pub record IsQuietAt (s : Shown) : Type 0 where

@@ -8,5 +8,6 @@ mod rows_of_drains;
 mod rows_of_exchanges;
 mod rows_of_loops;
 mod rows_of_moments;
+mod rows_of_reports;
 mod rows_of_rest;
 mod rows_of_results;

@@ -5,44 +5,63 @@ ghost use Rattle.gateway_model.specs.Known.{Shown};
 ghost use Rattle.gateway_model.specs.declared.entry.ReplyEntry.{ReplyEntry};
 ghost use Rattle.gateway_theory.specs.Values.{GatewayValue, shown};
 ghost use Rattle.http_pieces.specs.declared.framing.Framing.{Framing};
+ghost use Rattle.std.specs.declared.net.socket_addr.SocketAddr.{SocketAddr};
 ghost use Rattle.loop_model.specs.Asking.{request_of};
 ghost use Rattle.loop_model.specs.Rest.{RestsAsking, RestsClient, RestsTill};
-ghost use Rattle.loop_rows.specs.LoopRows.{IsQuietAt, IsWantedBy, lingering_client, loop_of, standing_client, standing_job};
+ghost use Rattle.loop_rows.specs.LoopRows.{IsQuietAt, IsWantedBy, lingering_client, loop_of, standing_client, standing_job, watched_client, watched_job};
 
 /// One to whom nothing is owed rests while nothing comes; one to whom something is owed while its stream takes no more.
 fn rests_of_clients()
-    ensures idle { (s : Shown) (until : Option ℕ) → IsQuietAt s → RestsClient s until (standing_client [] false true) }
-    ensures full { (s : Shown) (until : Option ℕ) (b : ℕ) (rest : List ℕ) → RestsClient s until (standing_client (b ∷ rest) true false) }
-    ensures unwritten { (s : Shown) (until : Option ℕ) (b : ℕ) (rest : List ℕ) → RestsClient s until (standing_client (b ∷ rest) false true) → ⊥ }
+    ensures idle { (s : Shown) (until : Option ℕ) → IsQuietAt s → RestsClient s until 0 (standing_client [] false true) }
+    ensures full { (s : Shown) (until : Option ℕ) (b : ℕ) (rest : List ℕ) → RestsClient s until 0 (standing_client (b ∷ rest) true false) }
+    ensures unwritten { (s : Shown) (until : Option ℕ) (b : ℕ) (rest : List ℕ) → RestsClient s until 0 (standing_client (b ∷ rest) false true) → ⊥ }
     ensures untaken { (s : Shown) (until : Option ℕ) (e : ReplyEntry) (rest : List ReplyEntry)
-        → s.untaken 0 ≡ e ∷ rest → RestsClient s until (standing_client [] false true) → ⊥ }
-    ensures unread { (s : Shown) (until : Option ℕ) → IsQuietAt s → RestsClient s until (standing_client [] true true) → ⊥ }
-    ensures over { (s : Shown) (until : Option ℕ) → s.untaken 0 ≡ [] → s.is_ended 0 ≡ true → RestsClient s until (standing_client [] false true) → ⊥ }
+        → s.untaken 0 ≡ e ∷ rest → RestsClient s until 0 (standing_client [] false true) → ⊥ }
+    ensures unread { (s : Shown) (until : Option ℕ) → IsQuietAt s → RestsClient s until 0 (standing_client [] true true) → ⊥ }
+    ensures over { (s : Shown) (until : Option ℕ) → s.untaken 0 ≡ [] → s.is_ended 0 ≡ true → RestsClient s until 0 (standing_client [] false true) → ⊥ }
 {}
 
 /// One that lingers rests till its limit, while nothing comes.
 fn rests_of_those_that_linger()
-    ensures rests { (s : Shown) → RestsClient s (Some 5) (lingering_client false false (Some 5)) }
-    ensures slept_over { (s : Shown) → RestsClient s (Some 6) (lingering_client false false (Some 5)) → ⊥ }
-    ensures forgotten { (s : Shown) → RestsClient s None (lingering_client false false (Some 5)) → ⊥ }
-    ensures for_ever { (s : Shown) (until : Option ℕ) → RestsClient s until (lingering_client false false None) → ⊥ }
-    ensures unread { (s : Shown) (until limit : Option ℕ) → RestsClient s until (lingering_client false true limit) → ⊥ }
-    ensures ended { (s : Shown) (until limit : Option ℕ) → RestsClient s until (lingering_client true false limit) → ⊥ }
+    ensures rests { (s : Shown) → RestsClient s (Some 5) 0 (lingering_client false false (Some 5)) }
+    ensures slept_over { (s : Shown) → RestsClient s (Some 6) 0 (lingering_client false false (Some 5)) → ⊥ }
+    ensures forgotten { (s : Shown) → RestsClient s None 0 (lingering_client false false (Some 5)) → ⊥ }
+    ensures for_ever { (s : Shown) (until : Option ℕ) → RestsClient s until 0 (lingering_client false false None) → ⊥ }
+    ensures unread { (s : Shown) (until limit : Option ℕ) → RestsClient s until 0 (lingering_client false true limit) → ⊥ }
+    ensures ended { (s : Shown) (until limit : Option ℕ) → RestsClient s until 0 (lingering_client true false limit) → ⊥ }
 {}
 
 /// A job that is asked for rests while its stream has nothing to read, and takes no more where something is left to be
 /// written. One whose stream has not taken a byte is not read.
 fn rests_of_jobs()
     ensures waits { (s : Shown) (until : Option ℕ) (j : JobValue)
-        → IsWantedBy s j → j.deadline ≡ None → RestsAsking s until (standing_job j (request_of j) false true false) }
-    ensures full { (s : Shown) (until : Option ℕ) (j : JobValue) → IsWantedBy s j → j.deadline ≡ None → RestsAsking s until (standing_job j [] false false false) }
-    ensures unsent { (s : Shown) (until : Option ℕ) (j : JobValue) → RestsAsking s until (standing_job j [] false true false) → request_of j ≡ [] }
-    ensures connects { (s : Shown) (until : Option ℕ) (j : JobValue) → IsWantedBy s j → j.deadline ≡ None → RestsAsking s until (standing_job j [] true false false) }
-    ensures unread { (s : Shown) (until : Option ℕ) (j : JobValue) (b : ℕ) (more : List ℕ) → RestsAsking s until (standing_job j (b ∷ more) true false false) → ⊥ }
-    ensures over { (s : Shown) (until : Option ℕ) (j : JobValue) (got : List ℕ) → RestsAsking s until (standing_job j got false false true) → ⊥ }
+        → IsWantedBy s j → j.deadline ≡ None → RestsAsking s until 0 (standing_job j (request_of j) false true false) }
+    ensures full { (s : Shown) (until : Option ℕ) (j : JobValue) → IsWantedBy s j → j.deadline ≡ None → RestsAsking s until 0 (standing_job j [] false false false) }
+    ensures unsent { (s : Shown) (until : Option ℕ) (j : JobValue) → RestsAsking s until 0 (standing_job j [] false true false) → request_of j ≡ [] }
+    ensures connects { (s : Shown) (until : Option ℕ) (j : JobValue) → IsWantedBy s j → j.deadline ≡ None → RestsAsking s until 0 (standing_job j [] true false false) }
+    ensures unread { (s : Shown) (until : Option ℕ) (j : JobValue) (b : ℕ) (more : List ℕ) → RestsAsking s until 0 (standing_job j (b ∷ more) true false false) → ⊥ }
+    ensures over { (s : Shown) (until : Option ℕ) (j : JobValue) (got : List ℕ) → RestsAsking s until 0 (standing_job j got false false true) → ⊥ }
     ensures unwanted { (s : Shown) (until : Option ℕ) (j : JobValue) (got : List ℕ)
-        → is_some (s.recorded j.call) ≡ false → RestsAsking s until (standing_job j got false false false) → ⊥ }
-    ensures slept_over { (s : Shown) (j : JobValue) (got : List ℕ) → j.deadline ≡ Some 5 → RestsAsking s (Some 6) (standing_job j got false false false) → ⊥ }
+        → is_some (s.recorded j.call) ≡ false → RestsAsking s until 0 (standing_job j got false false false) → ⊥ }
+    ensures slept_over { (s : Shown) (j : JobValue) (got : List ℕ) → j.deadline ≡ Some 5 → RestsAsking s (Some 6) 0 (standing_job j got false false false) → ⊥ }
+{}
+
+/// Nobody rests whose stream is not watched, or by the token of another place; nor one that has something to write, and
+/// is not watched for room; nor behind the time that an address has to accept.
+fn rests_of_streams()
+    ensures client { (s : Shown) (until : Option ℕ) → IsQuietAt s → RestsClient s until 0 (watched_client (Some (0, true))) }
+    ensures unwatched { (s : Shown) (until : Option ℕ) → RestsClient s until 0 (watched_client None) → ⊥ }
+    ensures anothers { (s : Shown) (until : Option ℕ) → RestsClient s until 0 (watched_client (Some (2, true))) → ⊥ }
+    ensures for_reads { (s : Shown) (until : Option ℕ) → RestsClient s until 0 (watched_client (Some (0, false))) → ⊥ }
+    ensures job { (a : SocketAddr) (s : Shown) (until : Option ℕ) (j : JobValue) → IsWantedBy s j → j.deadline ≡ None
+        → RestsAsking s until 1 (watched_job a j (request_of j) (Some (3, false)) None) }
+    ensures job_unwatched { (a : SocketAddr) (s : Shown) (until : Option ℕ) (j : JobValue) (got : List ℕ) → RestsAsking s until 1 (watched_job a j got None None) → ⊥ }
+    ensures jobs_of_another { (a : SocketAddr) (s : Shown) (until : Option ℕ) (j : JobValue) (got : List ℕ)
+        → RestsAsking s until 1 (watched_job a j got (Some (1, true)) None) → ⊥ }
+    ensures job_for_reads { (a : SocketAddr) (s : Shown) (until : Option ℕ) (j : JobValue)
+        → RestsAsking s until 1 (watched_job a j [] (Some (3, false)) None) → request_of j ≡ [] }
+    ensures slept_over { (a : SocketAddr) (s : Shown) (j : JobValue) (got : List ℕ)
+        → RestsAsking s (Some 6) 1 (watched_job a j got (Some (3, true)) (Some 5)) → ⊥ }
 {}
 
 /// No loop rests with a job and a place for it, or behind the deadline of a call.

@@ -120,6 +120,10 @@ impl<S: Stream> Wire for Told<S> {
         self.may_write
     }
 
+    fn watched(&self) -> Option<(usize, bool)> {
+        self.watched
+    }
+
     fn read(&mut self, piece: &mut [u8; PIECE]) -> Got {
         match self.stream.read(piece) {
             Ok(0) => self.end(None),

@@ -48,6 +48,10 @@ pub trait Wire {
     fn may_write(&self) -> bool
         ensures { result ≡ writes self.now };
 
+    /// By what token it is watched, and whether for room to write too; None before it is.
+    fn watched(&self) -> Option<(usize, bool)>
+        ensures { result ≡ watched self.now };
+
     /// Reads once, into the first places of the piece.
     fn read(&mut self, piece: &mut [u8; PIECE]) -> Got
         ensures given { Gives (given self.old) (given self.new) piece.new result }

@@ -13,7 +13,7 @@ returns-clause-more c h f v j given got more =
       side = side_on f v [] [] (j ∷ []);
       asking = λ i x is.
           let a = alone i (asked h j [] given got) x is in
-          (y, inl (ap (λ n. asked_at n (Some y ∷ [])) a.0), subst (λ t. AsksOn t y) a.1 (record { job = refl; found = prefix-refl (h ∷ []); streams = inl record { tried = refl; peer = inr refl; given = prefix-refl given; got = (more, refl) } }));
+          (y, inl (ap (λ n. asked_at n (Some y ∷ [])) a.0), subst (λ t. AsksOn t y) a.1 (record { job = refl; found = prefix-refl (h ∷ []); streams = inl record { tried = refl; peer = inr refl; given = prefix-refl given; got = (more, refl); reported = inr (prefix-refl []) } }));
       ended = prefix-refl [];
     }
 
@@ -40,7 +40,7 @@ returns-clause-over c h f v j given got more o =
           let a = alone i (asked h j [] given got) x is in (
             y,
             inr record { before = []; outcome = o; after = []; ended_are = refl },
-            subst (λ t. AsksOn t y) a.1 (record { job = refl; found = prefix-refl (h ∷ []); streams = inl record { tried = refl; peer = inr refl; given = (more, refl); got = prefix-refl got } }),
+            subst (λ t. AsksOn t y) a.1 (record { job = refl; found = prefix-refl (h ∷ []); streams = inl record { tried = refl; peer = inr refl; given = (more, refl); got = prefix-refl got; reported = inr (prefix-refl []) } }),
           );
       ended = (ended h j [] (given ++ more) got o ∷ [], refl);
     }

@@ -10,6 +10,7 @@ some_not_none x xs e = cc
 
 pub returns-clause-idle : goal.returns-clause-idle
 returns-clause-idle c s until q = record {
+  watched = refl;
   written = λ off. inl record { nothing_waits = refl; nothing_untaken = q.nothing_untaken };
   goes_on = λ off w. q.goes_on;
   unread = λ off w goes. refl;
@@ -19,6 +20,7 @@ returns-clause-idle c s until q = record {
 
 pub returns-clause-full : goal.returns-clause-full
 returns-clause-full c s until b rest = record {
+  watched = refl;
   written = λ off. inr refl;
   goes_on = λ off w. absurd (some_not_none b rest w.nothing_waits);
   unread = λ off w goes. absurd (some_not_none b rest w.nothing_waits);

@@ -11,13 +11,13 @@ no_limit : (until limit : Option ℕ) → limit ≡ None → AtMost until limit
 no_limit until limit none = subst (λ (l : Option ℕ). AtMost until l) (sym none) tt
 
 pub returns-clause-waits : goal.returns-clause-waits
-returns-clause-waits c s until j wanted none = record { wanted = wanted; goes_on = refl; limited = no_limit until j.deadline none; unread = λ some. refl; unsent = λ unsent. absurd (unsent refl) }
+returns-clause-waits c s until j wanted none = record { wanted = wanted; goes_on = refl; limited = (no_limit until j.deadline none, tt); watched = λ there. absurd (off_on there); unread = λ some. refl; unsent = λ unsent. absurd (unsent refl) }
 
 pub returns-clause-full : goal.returns-clause-full
-returns-clause-full c s until j wanted none = record { wanted = wanted; goes_on = refl; limited = no_limit until j.deadline none; unread = λ some. refl; unsent = λ unsent. refl }
+returns-clause-full c s until j wanted none = record { wanted = wanted; goes_on = refl; limited = (no_limit until j.deadline none, tt); watched = λ there. absurd (off_on there); unread = λ some. refl; unsent = λ unsent. refl }
 
 pub returns-clause-connects : goal.returns-clause-connects
-returns-clause-connects c s until j wanted none = record { wanted = wanted; goes_on = refl; limited = no_limit until j.deadline none; unread = λ some. absurd (some refl); unsent = λ unsent. refl }
+returns-clause-connects c s until j wanted none = record { wanted = wanted; goes_on = refl; limited = (no_limit until j.deadline none, tt); watched = λ there. absurd (off_on there); unread = λ some. absurd (some refl); unsent = λ unsent. refl }
 
 pub returns-clause-unsent : goal.returns-clause-unsent
 returns-clause-unsent c s until j r = by_it (request_of j) r.unsent
@@ -39,4 +39,4 @@ pub returns-clause-unwanted : goal.returns-clause-unwanted
 returns-clause-unwanted c s until j got off r = off_on (sym off ∙ r.wanted)
 
 pub returns-clause-slept_over : goal.returns-clause-slept_over
-returns-clause-slept_over c s j got is r = let late = subst (λ (l : Option ℕ). AtMost (Some 6) l) is r.limited in omega (arith, late)
+returns-clause-slept_over c s j got is r = let late = subst (λ (l : Option ℕ). AtMost (Some 6) l) is r.limited.0 in omega (arith, late)

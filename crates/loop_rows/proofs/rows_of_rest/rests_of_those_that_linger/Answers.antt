@@ -4,6 +4,7 @@ use Rattle.loop_rows.proofs.rows_of_rest.rests_of_those_that_linger.Goals as goa
 
 pub returns-clause-rests : goal.returns-clause-rests
 returns-clause-rests c s = record {
+  watched = refl;
   written = λ off. absurd (on_off off);
   goes_on = λ off w. absurd (on_off off);
   unread = λ off w goes. absurd (on_off off);

@@ -7,7 +7,7 @@ pub returns-after-received-clause-grows : goal.returns-after-received-clause-gro
 returns-after-received-clause-grows g c =
     let rest = c.read.ensures.rest in
     rw (← c.self.view_is)
-    (rw c.in-Some.is ((_, c.in-Bytes.ensures.given.2), ([], ap (λ (s : StreamValue). s.got) rest ∙ sym (append-nil _)), ap (λ (s : StreamValue). Some s.peer) rest))
+    (rw c.in-Some.is ((_, c.in-Bytes.ensures.given.2), ([], ap (λ (s : StreamValue). s.got) rest ∙ sym (append-nil _)), ap (λ (s : StreamValue). Some s.peer) rest, ([], c.read.ensures.reported ∙ sym (append-nil _))))
 
 pub returns-in-End-Some-clause-steps : goal.returns-in-End-Some-clause-steps
 returns-in-End-Some-clause-steps g c =
@@ -21,6 +21,6 @@ pub returns-after-received-clause-steps : goal.returns-after-received-clause-ste
 returns-after-received-clause-steps g c =
     rw (← c.self.view_is)
     (rw c.in-Some.is (λ framing request a. elim c.match-received.branch [
-      | in-Some-received w ↦ rw w.result-is (read_ends framing request _ _ _ _ _ _ w.in-Some-received.end c.read.ensures.rest c.in-Bytes.ensures.given.2 (w.in-Some-received.ensures.comes _ _ a.reads) a)
-      | in-None w ↦ rw w.result-is (read_asks framing request _ _ _ _ _ _ c.received.ensures.left c.read.ensures.rest c.in-Bytes.ensures.given.2 c.in-Bytes.ensures.ended (w.in-None.ensures.comes _ _ a.reads) a)
+      | in-Some-received w ↦ rw w.result-is (read_ends framing request _ _ _ _ _ _ _ w.in-Some-received.end c.read.ensures.rest c.in-Bytes.ensures.given.2 (w.in-Some-received.ensures.comes _ _ a.reads) a)
+      | in-None w ↦ rw w.result-is (read_asks framing request _ _ _ _ _ _ _ c.received.ensures.left c.read.ensures.rest c.in-Bytes.ensures.given.2 c.in-Bytes.ensures.ended (w.in-None.ensures.comes _ _ a.reads) a)
     ]))

@@ -13,7 +13,7 @@ returns-clause-steps g c =
     (fits_reply i.conn i.lingers (g.W.Wire.ended i.wire) (g.W.Wire.given i.wire) (g.W.Wire.got i.wire) i.outbox c.of.result c.in-Some.reply not_left none (c.of.ensures ∙ c.into_parts-id.ensures.bytes)))
 
 pub returns-clause-grows : goal.returns-clause-grows
-returns-clause-grows g c = rw (← c.self.view_is) (grows_by _ _ _ _ _ _ _ _ _ _ _ _ _ (no_more _ _ refl) (no_more _ _ refl))
+returns-clause-grows g c = rw (← c.self.view_is) (grows_by _ _ _ _ _ _ _ _ _ _ _ _ _ (no_more _ _ refl) (no_more _ _ refl) refl)
 
 pub returns-then-lingers-clause-steps : goal.returns-then-lingers-clause-steps
 returns-then-lingers-clause-steps g c = steps_same _ _

@@ -43,29 +43,29 @@ returns-in-Interrupted-clause-steps g c =
 pub returns-then-self-2-clause-grows : goal.returns-then-self-2-clause-grows
 returns-then-self-2-clause-grows g c =
     let e = c.in-Bytes.ensures in
-    rw (← c.self.view_is) (grows_by _ _ _ _ _ _ _ _ _ _ _ _ _ e.given.2 (no_more _ _ e.got))
+    rw (← c.self.view_is) (grows_by _ _ _ _ _ _ _ _ _ _ _ _ _ e.given.2 (no_more _ _ e.got) e.reported)
 
 pub returns-else-self-2-clause-grows : goal.returns-else-self-2-clause-grows
 returns-else-self-2-clause-grows g c =
     let e = c.in-Bytes.ensures in
-    rw (← c.self.view_is) (grows_by _ _ _ _ _ _ _ _ _ _ _ _ _ e.given.2 (no_more _ _ e.got))
+    rw (← c.self.view_is) (grows_by _ _ _ _ _ _ _ _ _ _ _ _ _ e.given.2 (no_more _ _ e.got) e.reported)
 
 pub returns-in-Nothing-clause-grows : goal.returns-in-Nothing-clause-grows
 returns-in-Nothing-clause-grows g c =
     let e = c.in-Nothing.ensures in
-    rw (← c.self.view_is) (grows_by _ _ _ _ _ _ _ _ _ _ _ _ _ (no_more _ _ e.given) (no_more _ _ e.got))
+    rw (← c.self.view_is) (grows_by _ _ _ _ _ _ _ _ _ _ _ _ _ (no_more _ _ e.given) (no_more _ _ e.got) e.reported)
 
 pub returns-in-Interrupted-clause-grows : goal.returns-in-Interrupted-clause-grows
 returns-in-Interrupted-clause-grows g c =
     let e = c.in-Interrupted.ensures in
-    rw (← c.self.view_is) (grows_by _ _ _ _ _ _ _ _ _ _ _ _ _ (no_more _ _ e.given) (no_more _ _ e.got))
+    rw (← c.self.view_is) (grows_by _ _ _ _ _ _ _ _ _ _ _ _ _ (no_more _ _ e.given) (no_more _ _ e.got) e.reported)
 
 pub returns-else-self-3-clause-grows : goal.returns-else-self-3-clause-grows
 returns-else-self-3-clause-grows g c =
     let e = c.in-End.ensures in
-    rw (← c.self.view_is) (grows_by _ _ _ _ _ _ _ _ _ _ _ _ _ (no_more _ _ e.given) (no_more _ _ e.got))
+    rw (← c.self.view_is) (grows_by _ _ _ _ _ _ _ _ _ _ _ _ _ (no_more _ _ e.given) (no_more _ _ e.got) e.reported)
 
 pub returns-then-self-3-clause-grows : goal.returns-then-self-3-clause-grows
 returns-then-self-3-clause-grows g c =
     let e = c.in-End.ensures in
-    rw (← c.self.view_is) (grows_by _ _ _ _ _ _ _ _ _ _ _ _ _ (no_more _ _ e.given) (no_more _ _ e.got))
+    rw (← c.self.view_is) (grows_by _ _ _ _ _ _ _ _ _ _ _ _ _ (no_more _ _ e.given) (no_more _ _ e.got) e.reported)

@@ -20,12 +20,12 @@ returns-else-is_empty-2-clause-fits g c =
 pub returns-then-is_empty-2-clause-grows : goal.returns-then-is_empty-2-clause-grows
 returns-then-is_empty-2-clause-grows g c =
     let e = c.in-Bytes.ensures in
-    rw (c.tell.ensures.same, ← c.self.view_is) (grows_by _ _ _ _ _ _ _ _ _ _ _ _ _ (no_more _ _ e.given) e.got.2)
+    rw (c.tell.ensures.same, ← c.self.view_is) (grows_by _ _ _ _ _ _ _ _ _ _ _ _ _ (no_more _ _ e.given) e.got.2 e.reported)
 
 pub returns-else-is_empty-2-clause-grows : goal.returns-else-is_empty-2-clause-grows
 returns-else-is_empty-2-clause-grows g c =
     let e = c.in-Bytes.ensures in
-    rw (← c.self.view_is) (grows_by _ _ _ _ _ _ _ _ _ _ _ _ _ (no_more _ _ e.given) e.got.2)
+    rw (← c.self.view_is) (grows_by _ _ _ _ _ _ _ _ _ _ _ _ _ (no_more _ _ e.given) e.got.2 e.reported)
 
 pub returns-then-is_empty-clause-fits : goal.returns-then-is_empty-clause-fits
 returns-then-is_empty-clause-fits g c = fits_as_before _
@@ -41,7 +41,7 @@ returns-in-Nothing-clause-fits g c =
 pub returns-in-Nothing-clause-grows : goal.returns-in-Nothing-clause-grows
 returns-in-Nothing-clause-grows g c =
     let e = c.in-Nothing.ensures in
-    rw (← c.self.view_is) (grows_by _ _ _ _ _ _ _ _ _ _ _ _ _ (no_more _ _ e.given) (no_more _ _ e.got))
+    rw (← c.self.view_is) (grows_by _ _ _ _ _ _ _ _ _ _ _ _ _ (no_more _ _ e.given) (no_more _ _ e.got) e.reported)
 
 pub returns-in-Interrupted-clause-fits : goal.returns-in-Interrupted-clause-fits
 returns-in-Interrupted-clause-fits g c =
@@ -51,7 +51,7 @@ returns-in-Interrupted-clause-fits g c =
 pub returns-in-Interrupted-clause-grows : goal.returns-in-Interrupted-clause-grows
 returns-in-Interrupted-clause-grows g c =
     let e = c.in-Interrupted.ensures in
-    rw (← c.self.view_is) (grows_by _ _ _ _ _ _ _ _ _ _ _ _ _ (no_more _ _ e.given) (no_more _ _ e.got))
+    rw (← c.self.view_is) (grows_by _ _ _ _ _ _ _ _ _ _ _ _ _ (no_more _ _ e.given) (no_more _ _ e.got) e.reported)
 
 pub returns-in-Failed-clause-fits : goal.returns-in-Failed-clause-fits
 returns-in-Failed-clause-fits g c =
@@ -61,7 +61,7 @@ returns-in-Failed-clause-fits g c =
 pub returns-in-Failed-clause-grows : goal.returns-in-Failed-clause-grows
 returns-in-Failed-clause-grows g c =
     let e = c.in-Failed.ensures in
-    rw (c.tell-in-Failed.ensures.same, ← c.self.view_is) (grows_by _ _ _ _ _ _ _ _ _ _ _ _ _ (no_more _ _ e.given) (no_more _ _ e.got))
+    rw (c.tell-in-Failed.ensures.same, ← c.self.view_is) (grows_by _ _ _ _ _ _ _ _ _ _ _ _ _ (no_more _ _ e.given) (no_more _ _ e.got) e.reported)
 
 pub invariant_of-self : goal.invariant_of-self
 invariant_of-self g c = c.in-Bytes.ensures.ended ∙ c.self.invariant

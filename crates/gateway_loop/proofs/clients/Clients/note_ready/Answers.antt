@@ -1,24 +1,43 @@
-use Rattle.gateway_loop.proofs.Words.{refl, subst, sym, ClientValue, Grows, MakesSteps}
-use Rattle.gateway_loop.proofs.GrowLemmas.{continues_put, grows_moved, onward}
-use Rattle.gateway_loop.proofs.Places.{put_back}
+use Rattle.gateway_loop.proofs.Words.{◌≡◌, ◌∙◌, ◌∷◌, [], List, Option, Some, ap, refl, subst, sym, ClientValue, Grows, MakesSteps, told_client}
+use Rattle.gateway_loop.specs.Clients.{loop_value}
+use Rattle.std.specs.Prelude.{slice_set}
+use Rattle.gateway_loop.proofs.GrowLemmas.{continues_put, continues_same, grows_moved, onward}
+use Rattle.gateway_loop.proofs.Places.{changed_none, changed_some, put_set}
 use Rattle.gateway_loop.proofs.ServingLemmas.{serving_steps}
 use Rattle.gateway_loop.proofs.StepLemmas.{fits_moved, steps_fit}
 use Rattle.gateway_loop.proofs.clients.Clients.note_ready.Goals as goal
+use Rattle.gateway_loop.proofs.clients.Clients.note_ready.Goals.{in-Some, in_default}
 
-pub invariant_of-self-2 : goal.invariant_of-self-2
-invariant_of-self-2 g c u =
+pub invariant_of-self : goal.invariant_of-self
+invariant_of-self g c u =
     let i = c.self.inside in
-    let put = c.insert_reserved-place in
-    serving_steps u c.loop_laws.ensures i.core i.core i.moment _ _ c.args.place c.in-Some.client c.report.new.self (sym c.in-Some.ensures.value)
-    (subst (λ (y : ClientValue). MakesSteps i.core i.core c.in-Some.client y) (sym c.report.ensures) (steps_fit i.core _ _ (fits_moved c.in-Some.client _ _)))
-    (put_back i.clients c.try_remove.new.self put.new.self c.args.place put.result _ c.try_remove.ensures.updates c.in-Some.ensures.key_is_next put.ensures.key put.ensures.updates)
-    refl record { told = refl; results = refl; handed = refl; drained = refl } (c.self.invariant u)
+    elim c.match-get_mut.branch [
+      | in-Some w ↦ rw w.self-inside-is
+          (serving_steps u c.loop_laws.ensures i.core i.core i.moment _ _ c.args.place w.in-Some.client.now w.report.new.self (sym w.in-Some.ensures.value)
+          (subst (λ (y : ClientValue). MakesSteps i.core i.core w.in-Some.client.now y) (sym w.report.ensures) (steps_fit i.core _ _ (fits_moved w.in-Some.client.now _ _ _ _)))
+          (put_set i.clients.slots c.args.place w.in-Some.client.now w.report.new.self (sym w.in-Some.ensures.value))
+          refl record { told = refl; results = refl; handed = refl; drained = refl } (c.self.invariant u))
+      | in_default w ↦ rw w.self-inside-is (c.self.invariant u)
+    ]
+
+pub returns-clause-exact : goal.returns-clause-exact
+returns-clause-exact g c =
+    let i = c.self.inside in
+    let with_slots = λ (slots : List (Option ClientValue)). loop_value i.core slots i.gone.items i.told.items i.results.items i.handed.items i.drained in
+    rw (← c.self.view_is) (elim c.match-get_mut.branch [
+      | in-Some w ↦ rw w.self-inside-is
+          (ap with_slots (ap (λ (y : ClientValue). slice_set i.clients.slots c.args.place (Some y)) w.report.ensures
+          ∙ changed_some (told_client c.args.ready) i.clients.slots c.args.place w.in-Some.client.now (sym w.in-Some.ensures.value)))
+      | in_default w ↦ rw w.self-inside-is (ap with_slots (sym (changed_none (told_client c.args.ready) i.clients.slots c.args.place (sym w.in_default.ensures.value))))
+    ])
 
 pub returns-clause-goes : goal.returns-clause-goes
 returns-clause-goes g c =
     let i = c.self.inside in
-    let put = c.insert_reserved-place in
-    rw (← c.self.view_is)
-    (onward _ _ (continues_put _ _ refl refl refl refl refl c.args.place c.in-Some.client c.report.new.self (sym c.in-Some.ensures.value)
-    (subst (λ (y : ClientValue). Grows c.in-Some.client y) (sym c.report.ensures) (grows_moved c.in-Some.client _ _))
-    (put_back i.clients c.try_remove.new.self put.new.self c.args.place put.result _ c.try_remove.ensures.updates c.in-Some.ensures.key_is_next put.ensures.key put.ensures.updates) refl))
+    rw (← c.self.view_is) (elim c.match-get_mut.branch [
+      | in-Some w ↦ rw w.self-inside-is
+          (onward _ _ (continues_put _ _ refl refl refl refl refl c.args.place w.in-Some.client.now w.report.new.self (sym w.in-Some.ensures.value)
+          (subst (λ (y : ClientValue). Grows w.in-Some.client.now y) (sym w.report.ensures) (grows_moved w.in-Some.client.now _ _ _ _ (c.args.ready ∷ [], refl)))
+          (put_set i.clients.slots c.args.place w.in-Some.client.now w.report.new.self (sym w.in-Some.ensures.value)) refl))
+      | in_default w ↦ rw w.self-inside-is (onward _ _ (continues_same _))
+    ])

@@ -12,7 +12,7 @@ invariant_of-self-2 g c u =
     let slots : c.reserve.new.self.slots ≡ i.clients.slots = ap (λ (s : Slab ClientValue). s.slots) c.reserve.ensures.rest_kept in
     let puts = put_one c.reserve.new.self put.new.self put.result (Some c.new.result) put.ensures.updates in
     serving_comes u c.loop_laws.ensures i.core c.open_conn.new.self i.moment _ _ c.open_conn.ensures.keeps.plans_are put.result c.in-Ok.conn
-    (g.W.Wire.given parts.result.0) (g.W.Wire.got parts.result.0) (g.W.Wire.ended parts.result.0) (g.W.Wire.reads parts.result.0) (g.W.Wire.writes parts.result.0) c.in-Ok.ensures.number parts.ensures.given_none parts.ensures.got_none parts.ensures.goes_on c.in-Ok.ensures.stands
+    (g.W.Wire.given parts.result.0) (g.W.Wire.got parts.result.0) (g.W.Wire.ended parts.result.0) (g.W.Wire.reads parts.result.0) (g.W.Wire.writes parts.result.0) (g.W.Wire.watched parts.result.0) (g.W.Wire.reported parts.result.0) c.in-Ok.ensures.number parts.ensures.given_none parts.ensures.got_none parts.ensures.goes_on c.in-Ok.ensures.stands
     (sym (ap (λ (old : List (Option ClientValue)). at put.result old) slots) ∙ put.ensures.was_vacant)
     (subst (λ (y : ClientValue). Put i.clients.slots put.new.self.slots put.result (Some y)) c.new.ensures
     (subst (λ (old : List (Option ClientValue)). Put old put.new.self.slots put.result (Some c.new.result)) slots puts))

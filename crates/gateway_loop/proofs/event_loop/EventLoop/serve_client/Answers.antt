@@ -9,7 +9,7 @@ returns-clause-goes g c =
       | then-matches w ↦ rw w.self-is w.give_up_unwanted.ensures.goes
       | else-matches w ↦ rw w.self-is (goes_same _)
     ] in
-    goes_then _ _ _ c.tick.ensures.goes (goes_then _ _ _ c.read_client-heard.ensures.goes (goes_then _ _ _ after c.note.ensures.goes))
+    goes_then _ _ _ c.tick.ensures.goes (goes_then _ _ _ c.read_client-heard.ensures.goes (rw c.note.ensures after))
 
 pub returns-clause-told : goal.returns-clause-told
 returns-clause-told g c =
@@ -17,10 +17,10 @@ returns-clause-told g c =
       | then-matches w ↦ rw w.self-is w.give_up_unwanted.ensures.told
       | else-matches w ↦ rw w.self-is refl
     ] in
-    λ u is. rw (c.note.ensures.told, same, c.read_client-heard.ensures.told) (c.tick.ensures.told u is)
+    λ u is. rw (c.note.ensures, same, c.read_client-heard.ensures.told) (c.tick.ensures.told u is)
 
-pub returns-then-lingers-clause-goes : goal.returns-then-lingers-clause-goes
-returns-then-lingers-clause-goes g c = goes_then _ _ _ c.tick.ensures.goes (goes_then _ _ _ c.read_client-heard.ensures.goes c.drop_client.ensures.goes)
+pub returns-then-is_to_go-clause-goes : goal.returns-then-is_to_go-clause-goes
+returns-then-is_to_go-clause-goes g c = goes_then _ _ _ c.tick.ensures.goes (goes_then _ _ _ c.read_client-heard.ensures.goes c.drop_client.ensures.goes)
 
-pub returns-then-lingers-clause-told : goal.returns-then-lingers-clause-told
-returns-then-lingers-clause-told g c = λ u is. rw (c.drop_client.ensures.told, c.read_client-heard.ensures.told) (c.tick.ensures.told u is)
+pub returns-then-is_to_go-clause-told : goal.returns-then-is_to_go-clause-told
+returns-then-is_to_go-clause-told g c = λ u is. rw (c.drop_client.ensures.told, c.read_client-heard.ensures.told) (c.tick.ensures.told u is)

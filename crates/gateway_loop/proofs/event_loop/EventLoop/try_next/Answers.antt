@@ -14,9 +14,6 @@ returns-in-Ended-clause-goes g c = goes_then _ _ _ c.loop-address.invariant.0 (r
 pub returns-in-Waits-clause-goes : goal.returns-in-Waits-clause-goes
 returns-in-Waits-clause-goes g c = goes_then _ _ _ c.loop-address.invariant.0 (rw c.self.view_is at (goes_then _ _ _ c.connect.ensures.goes (goes_then _ _ _ c.step.ensures.goes c.watch.ensures.goes)))
 
-pub returns-in-More-clause-goes : goal.returns-in-More-clause-goes
-returns-in-More-clause-goes g c = goes_then _ _ _ c.loop-address.invariant.0 (rw c.self.view_is at (goes_then _ _ _ c.connect.ensures.goes (goes_then _ _ _ c.step.ensures.goes c.watch-in-More.ensures.goes)))
-
 pub returns-clause-goes : goal.returns-clause-goes
 returns-clause-goes g c = elim c.loop-address-test.branch [
   | else-loop-address-test w ↦ goes_then _ _ _ c.loop-address.invariant.0 (rw w.self-is at c.lose.ensures.goes)

@@ -1,12 +1,6 @@
 use Rattle.gateway_loop.proofs.AskLemmas.{goes_then}
 use Rattle.gateway_loop.proofs.event_loop.EventLoop.write_client.Goals as goal
 
-pub returns-else-is_to_be_read-2-clause-goes : goal.returns-else-is_to_be_read-2-clause-goes
-returns-else-is_to_be_read-2-clause-goes g c = rw (← c.self.view_is) c.write-written.ensures.goes
-
-pub returns-else-is_to_be_read-2-clause-told : goal.returns-else-is_to_be_read-2-clause-told
-returns-else-is_to_be_read-2-clause-told g c = λ u is. rw (c.write-written.ensures.told, c.write-written.ensures.same, c.self.view_is) is
-
 pub returns-then-eq-clause-goes : goal.returns-then-eq-clause-goes
 returns-then-eq-clause-goes g c = rw (← c.self.view_is) (goes_then _ _ _ c.write-written.ensures.goes c.drop_client.ensures.goes)
 
@@ -19,14 +13,8 @@ returns-then-is_to_leave-clause-goes g c = rw (← c.self.view_is) (goes_then _ 
 pub returns-then-is_to_leave-clause-told : goal.returns-then-is_to_leave-clause-told
 returns-then-is_to_leave-clause-told g c = λ u is. rw (c.leave.ensures.told, c.tell_broken-then-is_to_leave.ensures, c.write-written.ensures.told, c.write-written.ensures.same, c.self.view_is) is
 
-pub returns-then-eq-2-clause-goes : goal.returns-then-eq-2-clause-goes
-returns-then-eq-2-clause-goes g c = rw (← c.self.view_is) (goes_then _ _ _ c.write-written.ensures.goes c.line_up-then-eq-2.ensures.goes)
+pub returns-else-is_to_leave-clause-goes : goal.returns-else-is_to_leave-clause-goes
+returns-else-is_to_leave-clause-goes g c = rw (← c.self.view_is) c.write-written.ensures.goes
 
-pub returns-then-eq-2-clause-told : goal.returns-then-eq-2-clause-told
-returns-then-eq-2-clause-told g c = λ u is. rw (c.line_up-then-eq-2.ensures.told, c.write-written.ensures.told, c.write-written.ensures.same, c.self.view_is) is
-
-pub returns-then-is_to_be_read-clause-goes : goal.returns-then-is_to_be_read-clause-goes
-returns-then-is_to_be_read-clause-goes g c = c.line_up.ensures.goes
-
-pub returns-then-is_to_be_read-clause-told : goal.returns-then-is_to_be_read-clause-told
-returns-then-is_to_be_read-clause-told g c = λ u is. rw c.line_up.ensures.told is
+pub returns-else-is_to_leave-clause-told : goal.returns-else-is_to_leave-clause-told
+returns-else-is_to_leave-clause-told g c = λ u is. rw (c.write-written.ensures.told, c.write-written.ensures.same, c.self.view_is) is

@@ -6,7 +6,7 @@ use Rattle.gateway_loop.proofs.exchanges.Exchanges.begin.Goals as goal
 pub invariant_of-self-2 : goal.invariant_of-self-2
 invariant_of-self-2 g c =
     let i = c.self.inside in
-    let put = c.insert_reserved in
+    let put = c.insert_reserved-place in
     let slots : c.reserve.new.self.slots ≡ i.asking.slots = ap (λ (s : Slab AskingState). s.slots) c.reserve.ensures.rest_kept in
     takes_job i.framing i.clients c.take_job.new.self i.asking.slots put.new.self.slots i.ended.items put.result c.new-asking.result c.in_ok-job.job.job
     c.in_ok-job.ensures.results c.in_ok-job.ensures.handed (ap (λ (j : HandedJob). j.job) c.new-asking.ensures.job) c.new-asking.ensures.framing
@@ -24,7 +24,7 @@ invariant_of-self-in_err-job g c =
 pub returns-clause-goes : goal.returns-clause-goes
 returns-clause-goes g c =
     let i = c.self.inside in
-    let put = c.insert_reserved in
+    let put = c.insert_reserved-place in
     let slots : c.reserve.new.self.slots ≡ i.asking.slots = ap (λ (s : Slab AskingState). s.slots) c.reserve.ensures.rest_kept in
     rw (← c.self.view_is)
     (goes_begin i.asking.slots put.new.self.slots put.result i.framing i.clients c.take_job.new.self i.ended.items c.new-asking.result c.in_ok-job.ensures.goes

@@ -1,14 +1,38 @@
-use Rattle.gateway_loop.proofs.Words.{sym, ap, AskingState}
-use Rattle.gateway_loop.proofs.AskLemmas.{goes_back, keeps_back}
+use Rattle.gateway_loop.proofs.Words.{List, Option, ap, sym, whole_loop, AskingState, AskingValue, asked_for}
+use Rattle.gateway_loop.proofs.AskLemmas.{goes_put, goes_same, keeps_put}
+use Rattle.gateway_loop.proofs.Places.{put_set}
+use Rattle.gateway_loop.proofs.TellLemmas.{asking_changed, asking_same}
 use Rattle.gateway_loop.proofs.exchanges.Exchanges.report.Goals as goal
+use Rattle.gateway_loop.proofs.exchanges.Exchanges.report.Goals.{in-Some, in_default}
 
-pub invariant_of-self-2 : goal.invariant_of-self-2
-invariant_of-self-2 g c =
-    let put = c.insert_reserved-place.ensures in
-    keeps_back c.self.inside.framing c.self.inside.clients c.self.inside.ended.items c.try_remove.ensures.updates c.in-Some.ensures.key_is_next put.key put.updates (sym c.in-Some.ensures.value)
-    (ap (λ (x : AskingState). x.job) c.report.ensures.noted) (ap (λ (x : AskingState). x.framing) c.report.ensures.noted) c.begun_law.ensures.begun c.begun_law.ensures.untouched c.self.invariant
+pub invariant_of-self : goal.invariant_of-self
+invariant_of-self g c =
+    let i = c.self.inside in
+    elim c.match-get_mut.branch [
+      | in-Some w ↦ rw w.self-inside-is
+          (keeps_put i.framing i.clients i.asking.slots _ i.ended.items c.args.place w.in-Some.asking.now w.report.new.self (sym w.in-Some.ensures.value)
+          (ap (λ (x : AskingState). x.job) w.report.ensures.noted) (ap (λ (x : AskingState). x.framing) w.report.ensures.noted)
+          (put_set i.asking.slots c.args.place w.in-Some.asking.now w.report.new.self (sym w.in-Some.ensures.value)) w.begun_law.ensures.begun w.begun_law.ensures.untouched c.self.invariant)
+      | in_default w ↦ rw w.self-inside-is c.self.invariant
+    ]
+
+pub returns-clause-exact : goal.returns-clause-exact
+returns-clause-exact g c =
+    let i = c.self.inside in
+    let with_asking = λ (asking : List (Option AskingValue)). record (whole_loop i.framing i.clients i.asking.slots i.ended.items) { asking = asking } in
+    rw (← c.self.view_is) (elim c.match-get_mut.branch [
+      | in-Some w ↦ rw w.self-inside-is
+          (ap with_asking
+          (asking_changed c.args.ready i.asking.slots c.args.place w.in-Some.asking.now w.report.new.self (sym w.in-Some.ensures.value) (ap (λ (x : AskingState). asked_for x) w.report.ensures.noted)))
+      | in_default w ↦ rw w.self-inside-is (ap with_asking (asking_same c.args.ready i.asking.slots c.args.place (sym w.in_default.ensures.value)))
+    ])
 
 pub returns-clause-goes : goal.returns-clause-goes
 returns-clause-goes g c =
-    let put = c.insert_reserved-place.ensures in
-    rw (← c.self.view_is) (goes_back c.self.inside.framing c.self.inside.clients c.self.inside.ended.items c.try_remove.ensures.updates c.in-Some.ensures.key_is_next put.key put.updates (sym c.in-Some.ensures.value) c.report.ensures.on)
+    let i = c.self.inside in
+    rw (← c.self.view_is) (elim c.match-get_mut.branch [
+      | in-Some w ↦ rw w.self-inside-is
+          (goes_put i.asking.slots _ c.args.place i.framing i.clients i.ended.items w.in-Some.asking.now w.report.new.self (sym w.in-Some.ensures.value)
+          (put_set i.asking.slots c.args.place w.in-Some.asking.now w.report.new.self (sym w.in-Some.ensures.value)) w.report.ensures.on)
+      | in_default w ↦ rw w.self-inside-is (goes_same _)
+    ])

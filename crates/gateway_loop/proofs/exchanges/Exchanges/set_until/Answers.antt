@@ -1,10 +1,14 @@
-use Rattle.gateway_loop.proofs.Words.{sym}
-use Rattle.gateway_loop.proofs.Places.{set_same}
+use Rattle.gateway_loop.proofs.Words.{sym, ap, AskingState}
+use Rattle.gateway_loop.proofs.AskLemmas.{goes_back, keeps_back}
 use Rattle.gateway_loop.proofs.exchanges.Exchanges.set_until.Goals as goal
-use Rattle.gateway_loop.proofs.exchanges.Exchanges.set_until.Goals.{in-Some, in-None}
 
-pub invariant_of-self : goal.invariant_of-self
-invariant_of-self g c = elim c.match-get_mut.branch [
-  | in-Some w ↦ rw w.self-inside-is (rw (set_same _ _ _ (sym w.in-Some.ensures.value)) c.self.invariant)
-  | in-None w ↦ rw w.self-inside-is c.self.invariant
-]
+pub invariant_of-self-2 : goal.invariant_of-self-2
+invariant_of-self-2 g c =
+    let put = c.insert_reserved-place.ensures in
+    keeps_back c.self.inside.framing c.self.inside.clients c.self.inside.ended.items c.try_remove.ensures.updates c.in-Some.ensures.key_is_next put.key put.updates (sym c.in-Some.ensures.value)
+    (ap (λ (x : AskingState). x.job) c.set_until.ensures.noted) (ap (λ (x : AskingState). x.framing) c.set_until.ensures.noted) c.begun_law.ensures.begun c.begun_law.ensures.untouched c.self.invariant
+
+pub returns-clause-goes : goal.returns-clause-goes
+returns-clause-goes g c =
+    let put = c.insert_reserved-place.ensures in
+    rw (← c.self.view_is) (goes_back c.self.inside.framing c.self.inside.clients c.self.inside.ended.items c.try_remove.ensures.updates c.in-Some.ensures.key_is_next put.key put.updates (sym c.in-Some.ensures.value) c.set_until.ensures.on)

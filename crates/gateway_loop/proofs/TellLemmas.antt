@@ -1,0 +1,42 @@
+-- What reports change.
+use Rattle.gateway_loop.proofs.Words.{◌≡◌, ℕ, zero, suc, Bool, true, false, List, [], ◌∷◌, ◌++◌, map, Option, None, Some, refl, sym, ap, ◌∙◌, option_map, slice_index_or, AskingState, AskingValue, HasTicked, WholeLoop, Ready, asked_for, asked_at, changed_at, tell, tell_all, tell_in, told_asking}
+use Rattle.std.specs.Prelude.{◌%◌, ◌==◌, slice_set}
+use Rattle.gateway_loop.proofs.AskLemmas.{shown_at}
+use Rattle.gateway_loop.proofs.Places.{changed_none}
+
+told_in : (b : Bool) (r : Ready) (w : WholeLoop) → (tell_in b r w).side.told ≡ w.side.told
+told_in true r w = refl
+told_in false r w = refl
+
+-- no moment was told
+pub tells_no_moment : (rs : List Ready) (w : WholeLoop) → (tell_all rs w).side.told ≡ w.side.told
+tells_no_moment [] w = refl
+tells_no_moment (r ∷ rs) w = tells_no_moment rs (tell r w) ∙ told_in (r.token % 2 == 0) r w
+
+-- a moment was told since then
+pub ticked_since : (u v w : WholeLoop) → v.side.told ≡ u.side.told → HasTicked v.side w.side → HasTicked u.side w.side
+ticked_since u v w same t = (t.0, t.1, t.2 ∙ ap (λ (l : List ℕ). l ++ t.0 ∷ t.1) same)
+
+-- one more was told
+pub tell_more : (rs : List Ready) (r : Ready) (w : WholeLoop) → tell_all (rs ++ r ∷ []) w ≡ tell r (tell_all rs w)
+tell_more [] r w = refl
+tell_more (q ∷ rs) r w = tell_more rs r (tell q w)
+
+abbrev shown_slots : List (Option AskingState) → List (Option AskingValue)
+shown_slots slots = map (λ (o : Option AskingState). option_map asked_for o) slots
+
+-- what is seen of the jobs changes as they do
+pub asking_changed : (r : Ready) (slots : List (Option AskingState)) (i : ℕ) (x y : AskingState) → slice_index_or slots i None ≡ Some x → asked_for y ≡ told_asking r (asked_for x)
+    → shown_slots (slice_set slots i (Some y)) ≡ changed_at (told_asking r) i (shown_slots slots)
+asking_changed r [] i x y is same = absurd (nobody is)
+  where
+    nobody : None ≡ Some x → ⊥
+    nobody e = cc
+asking_changed r (o ∷ rest) zero x y is same =
+    ap (λ (p : Option AskingValue). p ∷ shown_slots rest)
+    (ap (λ (v : AskingValue). Some v) same ∙ ap (λ (q : Option AskingState). option_map (told_asking r) (option_map asked_for q)) (sym is))
+asking_changed r (o ∷ rest) (suc i) x y is same = ap (λ (l : List (Option AskingValue)). option_map asked_for o ∷ l) (asking_changed r rest i x y is same)
+
+pub asking_same : (r : Ready) (slots : List (Option AskingState)) (i : ℕ) → slice_index_or slots i None ≡ None → shown_slots slots ≡ changed_at (told_asking r) i (shown_slots slots)
+asking_same r slots i is =
+    sym (changed_none (told_asking r) (shown_slots slots) i (shown_at slots i ∙ ap (λ (o : Option AskingState). option_map asked_for o) is))

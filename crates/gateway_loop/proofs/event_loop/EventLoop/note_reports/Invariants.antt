@@ -1,0 +1,7 @@
+use Rattle.gateway_loop.proofs.Words.{◌≡◌, Goes, tell_all}
+use Rattle.std.specs.Prelude.{take}
+use Rattle.gateway_loop.proofs.event_loop.EventLoop.note_reports.Given as goal
+
+-- the reports so far were told, and no more
+abbrev pub invariant-loop-ready : goal.invariant-loop-ready
+invariant-loop-ready g l = (l.self-inside.exchanges ≡ tell_all (take l.ready-index l.reports) l.fn.self) × Goes l.fn.self l.self-inside.exchanges
