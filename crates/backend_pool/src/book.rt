@@ -311,7 +311,7 @@ impl<H: ReplyHook + Drop, L: Ledger, J: Ledger, K: Ledger> Book<H, L, J, K> {
     /// What is known of the gateway by the events that it stands for, whichever they are. It does nothing.
     pub fn known_law(&self)
         ensures known { (h : History) (occurred : List Placed) → BookStands self.now h → Occurs self.now.core.plans h.opened h.events occurred
-            → IsKnown (shown self.now.core) h (occurrences occurred) }
+            → IsKnown (shown self.now.core) h occurred }
     {
         known_law();
     }

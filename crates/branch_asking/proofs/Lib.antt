@@ -1,3 +1,4 @@
 pub mod Words
+pub mod StreamLemmas
 pub mod AddressLemmas
 pub mod BegunLemmas

@@ -10,6 +10,7 @@ use Rattle.branch_exchange.specs.declared.exchange_end.ExchangeEnd.TheVariants a
 use Rattle.branch_exchange.specs.declared.exchange_end.Loss.{Loss}
 use Rattle.gateway_model.specs.Queue.{IsPrefixOf}
 use Rattle.gateway_theory.specs.Task.{HandedJob}
+use Rattle.loop_model.specs.Streams.{ClosedValue, closed_value}
 use Rattle.loop_model.specs.Asking.{AskingValue, IsUntouched, StreamValue, peers_of, request_of, stream_value}
 use Rattle.wires.specs.Wires.{is_to_read}
 use Rattle.wires.specs.declared.ready.Ready.{Ready}
@@ -164,7 +165,11 @@ asked_for x = record {
   over = is_some x.end;
 }
 
--- the stream that it goes over, if there is one
+-- the stream that it goes over, if there is one, as it is once it is closed
+abbrev pub closed_now : AttemptValue → List ClosedValue
+closed_now x = option_map_or (λ (peer : SocketAddr). closed_value (Some peer) x.given x.got ∷ []) x.peer []
+
+-- .. as it is
 abbrev pub stream_of : AttemptValue → List StreamValue
 stream_of x = option_map_or (λ (peer : SocketAddr). stream_value peer x.given x.got x.ended ∷ []) x.peer []
 

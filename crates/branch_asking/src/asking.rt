@@ -1,13 +1,16 @@
-ghost use Rattle.std.specs.Prelude.{◌≡◌, ◌↔◌, ◌⊎◌, [], None, Some, false, true, is_some, IfOk, IfSome, IsFalse, MatchOption, option_and_then};
+ghost use Rattle.std.specs.Prelude.{◌≡◌, ◌↔◌, ◌⊎◌, [], None, Some, false, true, is_some, IfOk, IfSome, IsFalse, MatchOption, map, option_and_then, option_to_list};
 ghost use Rattle.std.specs.Borrow.{sem};
 ghost use Rattle.std.specs.Option.{option_map_or};
 ghost use Rattle.branch_causes.specs.Causes.{cause_of_end, status_of_end};
 ghost use Rattle.branch_causes.specs.declared.cause.Cause.TheVariants.{NotWanted};
 ghost use Rattle.branch_exchange.specs.Outcomes.{asked_of, outcome_of_asked};
 ghost use Rattle.branch_asking.specs.Addresses.{HasParsed, next_of};
+ghost use Rattle.branch_asking.specs.Streams.{Connects, HasStreamsOf};
 ghost use Rattle.branch_asking.specs.Asking.{Finds, NotesStream, asked_for, noted_attempt, timed_attempt, until_of, watched_attempt};
 ghost use Rattle.branch_asking.specs.Rests.{rests_asked};
+ghost use Rattle.loop_model.specs.Accounts.{stream_now};
 ghost use Rattle.loop_model.specs.Asking.{BeginsRequest, IsFair, ended_value, request_of};
+ghost use Rattle.loop_model.specs.Streams.{closed_value};
 ghost use Rattle.loop_model.specs.Whole.{AsksOn};
 
 use crate::addresses::Addresses;
@@ -76,6 +79,7 @@ impl<W: Wire> Asking<W> {
         ensures framing { result.framing ≡ framing }
         ensures job { result.job ≡ job }
         ensures found { result.addresses.found ≡ [] }
+        ensures fresh { (result.tried ≡ []) × (result.attempt.peer ≡ None) }
         ensures over { IfSome result.end (λ end. end ≡ ExchangeEnd.NoMemory) }
     {
         let (request, end) = match request_of(alloc, &job) {
@@ -155,7 +159,7 @@ impl<W: Wire> Asking<W> {
     pub fn watch<N: Network<W>>(&mut self, net: &mut N, token: usize) -> bool
         ensures noted { self.new ≡ record self.old { attempt = watched_attempt self.new.attempt.watched self.old.attempt } }
         ensures on { AsksOn (asked_for self.old) (asked_for self.new) }
-        ensures told { N.told net.new ≡ N.told net.old }
+        ensures net { N.value net.new ≡ N.value net.old }
     {
         self.attempt.watch(net, token)
     }
@@ -214,6 +218,7 @@ impl<W: Wire> Asking<W> {
         ensures found { self.new.addresses.found ≡ self.old.addresses.found }
         ensures end { self.new.end ≡ self.old.end }
         ensures on { AsksOn (asked_for self.old) (asked_for self.new) }
+        ensures streams { HasStreamsOf (asked_for self.old) (asked_for self.new) }
         ensures parsed { HasParsed self.old.job.job.address result self.old.addresses self.new.addresses }
     {
         self.addresses.parse(self.job.address())
@@ -226,6 +231,7 @@ impl<W: Wire> Asking<W> {
         ensures own { (self.new ≡ self.old) ⊎ (self.old.job.job.address ≡ name.now) }
         ensures end { self.new.end ≡ self.old.end }
         ensures on { AsksOn (asked_for self.old) (asked_for self.new) }
+        ensures streams { HasStreamsOf (asked_for self.old) (asked_for self.new) }
         ensures found { Finds name.now found.items self.old self.new }
     {
         if name == self.job.address() {
@@ -239,6 +245,7 @@ impl<W: Wire> Asking<W> {
         ensures job { self.new.job ≡ self.old.job }
         ensures found { self.new.addresses.found ≡ self.old.addresses.found }
         ensures on { AsksOn (asked_for self.old) (asked_for self.new) }
+        ensures streams { HasStreamsOf (asked_for self.old) (asked_for self.new) }
         ensures over { (result ≡ Progress.Ended) ↔ (is_some self.new.end ≡ true) }
     {
         if self.end.is_some() {
@@ -263,6 +270,7 @@ impl<W: Wire> Asking<W> {
         ensures job { self.new.job ≡ self.old.job }
         ensures found { self.new.addresses.found ≡ self.old.addresses.found }
         ensures on { AsksOn (asked_for self.old) (asked_for self.new) }
+        ensures streams { HasStreamsOf (asked_for self.old) (asked_for self.new) }
         ensures kept { (end : ExchangeEnd) → self.old.end ≡ Some end → self.new ≡ self.old }
         ensures lost { self.old.end ≡ None → MatchOption loss (self.new.end ≡ Some ExchangeEnd.NoMemory)
             (λ loss. self.new.end ≡ Some (ExchangeEnd.Lost loss)) }
@@ -278,6 +286,7 @@ impl<W: Wire> Asking<W> {
         ensures job { self.new.job ≡ self.old.job }
         ensures found { self.new.addresses.found ≡ self.old.addresses.found }
         ensures on { AsksOn (asked_for self.old) (asked_for self.new) }
+        ensures streams { HasStreamsOf (asked_for self.old) (asked_for self.new) }
         ensures fair { IsFair self.new.framing (ended_value (asked_for self.new) result) }
         ensures tells { (end : ExchangeEnd) → self.old.end ≡ Some end
             → IfSome result (λ outcome. outcome_of_asked (asked_of end) ≡ Some outcome) }
@@ -298,7 +307,7 @@ impl<W: Wire + Drop> Asking<W> {
         ensures found { self.new.addresses.found ≡ self.old.addresses.found }
         ensures on { AsksOn (asked_for self.old) (asked_for self.new) }
         ensures notes { NotesStream result self.old self.new }
-        ensures told { N.told net.new ≡ N.told net.old }
+        ensures streams { Connects (N.value net.old) (N.value net.new) (asked_for self.old) (asked_for self.new) }
     {
         if self.attempt.is_connected() || self.end.is_some() {
             return true;
@@ -310,13 +319,15 @@ impl<W: Wire + Drop> Asking<W> {
         let stream = Backend::connect(net, address, self.attempt.left());
         if let Some(before) = self.attempt.connect(stream) {
             self.tried = self.tried.and(&before, &true);
+            net.close(before.into_wire());
         }
         true
     }
 
     /// The job, what was noted of it, and its stream, if it has one.
     pub fn into_parts(self) -> (Job, Errand, Option<W>)
-        ensures { result.0 ≡ self.job }
+        ensures job { result.0 ≡ self.job }
+        ensures stream { map (λ w. closed_value (W.peer w) (W.given w) (W.got w)) (option_to_list result.2) ≡ stream_now (asked_for self) }
     {
         let stream = self.attempt.into_wire();
         (self.job, self.errand, stream)

@@ -1,6 +1,7 @@
-ghost use Rattle.std.specs.Prelude.{◌≡◌, [], None, Some, IfSome, IsFalse, false};
+ghost use Rattle.std.specs.Prelude.{◌≡◌, [], None, Some, IfSome, IsFalse, false, map, option_to_list};
 ghost use Rattle.loop_model.specs.Asking.{IsUntouched};
-ghost use Rattle.branch_asking.specs.Asking.{Asks, HadStream, HasGrown, IsUnsent, IsUntouchedAttempt, Steps, attempt_value, noted_attempt, until_of};
+ghost use Rattle.loop_model.specs.Streams.{closed_value};
+ghost use Rattle.branch_asking.specs.Asking.{closed_now, Asks, HadStream, HasGrown, IsUnsent, IsUntouchedAttempt, Steps, attempt_value, noted_attempt, until_of};
 ghost use Rattle.branch_asking.specs.Rests.{rests_over};
 
 use crate::backend::Backend;
@@ -71,7 +72,7 @@ impl<W: Wire> Attempt<W> {
     /// Watches its stream by that token. False where it has none, or can't.
     pub(crate) fn watch<N: Network<W>>(&mut self, net: &mut N, token: usize) -> bool
         ensures same { self.new ≡ record self.old { watched = self.new.watched } }
-        ensures told { N.told net.new ≡ N.told net.old }
+        ensures net { N.value net.new ≡ N.value net.old }
     {
         let writes = !self.exchange.is_sent();
         match &mut self.stream {
@@ -238,7 +239,9 @@ impl<W: Wire> Attempt<W> {
 
 impl<W: Wire + Drop> Attempt<W> {
     /// Its stream, once its address is known.
-    pub(crate) fn into_wire(self) -> Option<W> {
+    pub(crate) fn into_wire(self) -> Option<W>
+        ensures { map (λ w. closed_value (W.peer w) (W.given w) (W.got w)) (option_to_list result) ≡ closed_now self }
+    {
         Some(self.stream?.into_wire())
     }
 

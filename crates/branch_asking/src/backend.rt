@@ -1,6 +1,8 @@
-ghost use Rattle.std.specs.Prelude.{◌≡◌, ◌||◌, ◌++◌, ◌∷◌, [], false};
+ghost use Rattle.std.specs.Prelude.{◌≡◌, ◌||◌, ◌++◌, ◌∷◌, [], Some, false};
 ghost use Rattle.branch_asking.specs.Asking.{backend_value};
+ghost use Rattle.loop_model.specs.Accounts.{closed_stream};
 ghost use Rattle.loop_model.specs.Asking.{stream_value};
+ghost use Rattle.loop_model.specs.Streams.{closed_value};
 ghost use Rattle.wires.specs.Wires.{Ends, Gives, Takes, is_to_read};
 
 use crate::network::Network;
@@ -17,12 +19,15 @@ pub(crate) struct Backend<W: Wire> {
 }
 
 impl<W: Wire> Model for Backend<W> {
+    ghost use Rattle.std.specs.Prelude.{◌≡◌, Some};
     ghost use Rattle.loop_model.specs.Asking.{stream_value};
     ghost use Rattle.branch_asking.specs.Asking.{BackendValue, backend_value};
 
     ghost Value = { BackendValue };
 
     ghost view = { λ b. backend_value (stream_value b.peer (W.given b.wire) (W.got b.wire) (W.ended b.wire)) (W.reads b.wire) (W.writes b.wire) (W.watched b.wire) (W.reported b.wire) };
+
+    ghost invariant = { λ b. W.peer b.wire ≡ Some b.peer };
 }
 
 impl<W: Wire> Backend<W> {
@@ -33,7 +38,7 @@ impl<W: Wire> Backend<W> {
         length: usize,
     ) -> Backend<W>
         ensures fresh { result.stream ≡ stream_value address [] [] false }
-        ensures told { N.told net.new ≡ N.told net.old }
+        ensures made { N.value net.new ≡ record (N.value net.old) { made = (N.value net.old).made ++ address ∷ [] } }
     {
         Backend {
             wire: net.connect(address, length),
@@ -44,7 +49,7 @@ impl<W: Wire> Backend<W> {
     /// Watches it by that token, for room to write too with `writes`. False where it can't.
     pub(crate) fn watch<N: Network<W>>(&mut self, net: &mut N, token: usize, writes: bool) -> bool
         ensures same { self.new ≡ record self.old { watched = self.new.watched } }
-        ensures told { N.told net.new ≡ N.told net.old }
+        ensures net { N.value net.new ≡ N.value net.old }
     {
         net.watch(&mut self.wire, token, writes)
     }
@@ -77,7 +82,9 @@ impl<W: Wire> Backend<W> {
         self.wire.watched()
     }
 
-    pub(crate) fn into_wire(self) -> W {
+    pub(crate) fn into_wire(self) -> W
+        ensures { closed_value (W.peer result) (W.given result) (W.got result) ≡ closed_stream self.stream }
+    {
         let Backend { wire, peer: _ } = self;
         wire
     }

@@ -362,7 +362,7 @@ impl<M: Host + Net> Dealer<M> {
         let side = self.sides.get(place)?;
         let seat = Seat::among(&side.open, &self.main).ok()?;
         let socket = Socket::of_client(newcomer, seat).ok()?;
-        let dealt = Dealt::new(Told::new(socket), stock(self.alloc).ok()?);
+        let dealt = Dealt::new(Told::new(socket, None), stock(self.alloc).ok()?);
         side.hand_in(&self.rt, Mail::Stream(dealt)).ok()
     }
 

@@ -158,7 +158,7 @@ impl<M: NetHost> Looping<M> {
     fn close_idle(&mut self) {
         if self.is_to_end_calls() {
             self.has_ended_calls = true;
-            self.event_loop.drain();
+            self.event_loop.drain(&mut self.network);
         }
         // what came meanwhile is read first, and all of it
         let waited = self.network.wait(NextTurn::AtOnce, &mut self.comings.ready);
@@ -166,7 +166,7 @@ impl<M: NetHost> Looping<M> {
         if waited.is_ok() {
             self.event_loop.turn(&mut self.network, &mut self.comings);
             if !self.has_idle && self.event_loop.next_turn() != NextTurn::AtOnce {
-                self.event_loop.close_idle();
+                self.event_loop.close_idle(&mut self.network);
             }
         }
     }
@@ -219,16 +219,19 @@ pub(crate) struct MioNetwork<M> {
     side: Arc<LoopSide>,
     resolver: Arc<Resolver>,
     log: Option<LoopLog>,
+    // for proofs: the moments that it told, and the streams that it made, by their addresses, and closed
     told: Log<u64, ()>,
+    made: Log<SocketAddr, ()>,
+    closed: Log<Told<Socket>, ()>,
 }
 
 impl<M> Model for MioNetwork<M> {
-    ghost use Rattle.std.specs.Prelude.{ℕ, List};
-    ghost use Rattle.connect_gateway.specs.Moments.{moments_told};
+    ghost use Rattle.loop_model.specs.Accounts.{NetworkValue};
+    ghost use Rattle.connect_gateway.specs.Networks.{network_value};
 
-    ghost Value = { List ℕ };
+    ghost Value = { NetworkValue };
 
-    ghost view = { λ n. moments_told n.told.items };
+    ghost view = { λ n. network_value n.told.items n.made.items n.closed.items };
 }
 
 impl<M: Host> MioNetwork<M> {
@@ -253,6 +256,8 @@ impl<M: Host> MioNetwork<M> {
             events: Events::with_capacity(common.alloc, MOST_EVENTS)?,
             poll,
             told: Log::new(),
+            made: Log::new(),
+            closed: Log::new(),
         })
     }
 
@@ -289,7 +294,7 @@ impl<M: Host> MioNetwork<M> {
 }
 
 impl<M: NetHost> Network<Told<Socket>> for MioNetwork<M> {
-    ghost told = { λ n. n };
+    ghost value = { λ n. n };
 
     fn moment(&mut self) -> u64 {
         let moment = self.clock.now(&self.rt);
@@ -298,7 +303,13 @@ impl<M: NetHost> Network<Told<Socket>> for MioNetwork<M> {
     }
 
     fn connect(&mut self, address: SocketAddr, length: usize) -> Told<Socket> {
-        Told::new(Socket::to_backend(&self.rt, address, length))
+        self.made = self.made.and(&address, &());
+        Told::new(Socket::to_backend(&self.rt, address, length), Some(address))
+    }
+
+    fn close(&mut self, wire: Told<Socket>) {
+        self.closed = self.closed.and(&wire, &());
+        drop(wire);
     }
 
     fn watch(&mut self, wire: &mut Told<Socket>, token: usize, writes: bool) -> bool {

@@ -8,7 +8,7 @@ ghost use Rattle.gateway_theory.specs.Serving.{TakesSome, WouldBegin, Breaks, Co
 ghost use Rattle.gateway_theory.specs.Refused.{RefusesOpening};
 ghost use Rattle.gateway_theory.specs.Tally.{tally_of};
 ghost use Rattle.gateway_model.specs.Past.{is_due};
-ghost use Rattle.gateway_model.specs.Starts.{Placed, occurrences};
+ghost use Rattle.gateway_model.specs.Starts.{Placed};
 ghost use Rattle.gateway_model.specs.Events.{most_open, Occurs};
 ghost use Rattle.gateway_model.specs.declared.event.Event.TheVariants.{BranchResult, Closing, Drain, HangUp, Moment};
 ghost use Rattle.gateway_theory.specs.Task.{HandedJob};
@@ -276,7 +276,7 @@ impl<H: ReplyHook + Drop> Core<H> {
     /// What is known of the gateway by the events that it stands for, whichever they are. It does nothing.
     pub fn known_law(&self)
         ensures known { (h : History) (occurred : List Placed) → Served self.now h → Occurs self.now.plans h.opened h.events occurred
-            → IsKnown (shown self.now) h (occurrences occurred) }
+            → IsKnown (shown self.now) h occurred }
     {
         let _ = &self.opened;
     }

@@ -1,7 +1,12 @@
 -- What each step makes of the jobs that are asked for, and of those that ended.
-use Rattle.gateway_loop.proofs.Words.{◌≡◌, ◌≢◌, ◌⊎◌, ℕ, zero, suc, ◌+◌, Bool, false, cond, List, [], ◌∷◌, ◌++◌, All, map, Option, None, Some, refl, sym, ap, ◌∙◌, subst, arith, append_assoc, inl, inr, ⊎_elim, count_by, sum_by, option_map, slice_index_or, option_map_or, cases_eq, map-append, All-push, sum_by-append, sum_by-cons, Outcome, JobValue, IsPrefixOf, HandedJob, Slab, Updates, AskingValue, BeginsRequest, EndedValue, IsFair, StreamValue, ended_value, LoopValue, HasTicked, AsksFairly, AsksOn, ContinuesLoop, GivesUpStream, HasEndedSince, KeepsStream, WholeLoop, asked_at, count_asked, AskingState, asked_for, HandsNothing, Onward, Goes, AreFramed, IsFramed, whole_loop, Framing, SocketAddr, prefix-refl, prefix-trans}
+use Rattle.gateway_loop.proofs.Words.{◌≡◌, ◌≢◌, ◌⊎◌, ℕ, zero, suc, ◌+◌, Bool, false, cond, List, [], ◌∷◌, ◌++◌, All, map, Option, None, Some, refl, sym, ap, ◌∙◌, subst, arith, append_assoc, inl, inr, ⊎_elim, count_by, sum_by, option_map, slice_index_or, option_map_or, cases_eq, map-append, All-push, sum_by-append, sum_by-cons, Outcome, JobValue, IsPrefixOf, HandedJob, Slab, Updates, AskingValue, BeginsRequest, EndedValue, IsFair, StreamValue, ended_value, Account, AccountsFor, AccountsOn, Admits, ClosedValue, IsStill, NetworkValue, with_dealt, LoopValue, Continues, HasTicked, AsksFairly, AsksOn, ContinuesLoop, GivesUpStream, HasEndedSince, KeepsStream, WholeLoop, asked_at, count_asked, AskingState, asked_for, HandsNothing, Onward, Goes, AreFramed, IsFramed, whole_loop, Framing, SocketAddr, prefix-refl, prefix-trans}
 use Rattle.std.proofs.lemmas.Bool.Decides.{nat_tests}
 use Rattle.std.proofs.lemmas.List.{append-nil}
+use Rattle.loop_model.specs.Accounts.{stream_now}
+use Rattle.branch_asking.specs.Streams.{Connects, HasStreamsOf}
+use Rattle.gateway_loop.specs.Clients.{IsTold, LetsGo, TakesIn}
+use Rattle.gateway_loop.specs.Closing.{ClosesFrom}
+use Rattle.gateway_loop.proofs.AccountLemmas.{admits_accounts, begin_accounts, closes_accounts, connects_accounts, end_accounts, goes_accounts, put_accounts, still_accounts, told_accounts}
 use Rattle.gateway_loop.proofs.GrowLemmas as grow
 use Rattle.gateway_loop.proofs.Places.{Put, put_back}
 use Rattle.gateway_loop.proofs.SumLemmas.{sum_map, sum_put}
@@ -99,19 +104,49 @@ continues_then u v w a b = record {
   ended = prefix-trans u.ended v.ended w.ended a.ended b.ended;
 }
 
-pub onward : (v w : WholeLoop) → ContinuesLoop v w → Goes v w
-onward v w c = record { on = λ u a. continues_then u v w a c }
+pub moves : {a b : NetworkValue} (v w : WholeLoop) → ContinuesLoop v w → ((u : Account) → AccountsFor u a v → AccountsFor u b w) → w.side.drained ≡ v.side.drained → Goes a b v w
+moves {a} {b} v w c accounts drained = record { on = λ u before. continues_then u v w before c; accounts = accounts; drained = drained }
 
-pub goes_same : (v : WholeLoop) → Goes v v
-goes_same v = record { on = λ u a. a }
+pub goes_same : {a : NetworkValue} (v : WholeLoop) → Goes a a v v
+goes_same {a} v = record { on = λ u c. c; accounts = λ u f. f; drained = refl }
 
-pub goes_then : (u v w : WholeLoop) → Goes u v → Goes v w → Goes u w
-goes_then u v w p q = record { on = λ a c. q.on a (p.on a c) }
+pub goes_then : {a b c : NetworkValue} (u v w : WholeLoop) → Goes a b u v → Goes b c v w → Goes a c u w
+goes_then {a} {b} {c} u v w p q = record { on = λ t before. q.on t (p.on t before); accounts = λ x f. q.accounts x (p.accounts x f); drained = q.drained ∙ p.drained }
 
-pub goes_on : (v w : WholeLoop) → Goes v w → ContinuesLoop v w
-goes_on v w p = p.on v (continues_same v)
+pub goes_on : {a b : NetworkValue} (v w : WholeLoop) → Goes a b v w → ContinuesLoop v w
+goes_on {a} {b} v w p = p.on v (continues_same v)
 
-pub ruleset going = (goes_same, goes_then, goes_on)
+dealt_none : (u : Account) → with_dealt 0 u ≡ u
+dealt_none u = let none : u.dealt + 0 ≡ u.dealt = omega arith in ap (λ (d : ℕ). record { before = u.before; dealt = d }) none
+
+-- no stream was dealt
+pub accounts_on : {a b : NetworkValue} (v w : WholeLoop) → Goes a b v w → AccountsOn 0 a b v w
+accounts_on {a} {b} v w p = λ u f. subst (λ (x : Account). AccountsFor x b w) (sym (dealt_none u)) (p.accounts u f)
+
+pub ruleset going = (goes_same, goes_then)
+
+-- streams were dealt before or behind
+pub goes_admits : {a b c : NetworkValue} (dealt : ℕ) (u v w : WholeLoop) → Goes a b u v → Admits dealt b c v w → Admits dealt a c u w
+goes_admits {a} {b} {c} dealt u v w p q = record { on = λ t before. q.on t (p.on t before); accounts = λ x f. q.accounts x (p.accounts x f); drained = q.drained ∙ p.drained }
+
+pub admits_goes : {a b c : NetworkValue} (dealt : ℕ) (u v w : WholeLoop) → Admits dealt a b u v → Goes b c v w → Admits dealt a c u w
+admits_goes {a} {b} {c} dealt u v w p q = record { on = λ t before. q.on t (p.on t before); accounts = λ x f. q.accounts (with_dealt dealt x) (p.accounts x f); drained = q.drained ∙ p.drained }
+
+pub admits_on : {a b : NetworkValue} (dealt : ℕ) (v w : WholeLoop) → Admits dealt a b v w → ContinuesLoop v w
+admits_on {a} {b} dealt v w p = p.on v (continues_same v)
+
+pub admits_none : {a : NetworkValue} (v : WholeLoop) → Admits 0 a a v v
+admits_none {a} v = record { on = λ u c. c; accounts = λ u f. subst (λ (x : Account). AccountsFor x a v) (sym (dealt_none u)) f; drained = refl }
+
+pub admits_more : {a b c : NetworkValue} (n m : ℕ) (u v w : WholeLoop) → Admits n a b u v → Admits m b c v w → Admits (n + m) a c u w
+admits_more {a} {b} {c} n m u v w p q = record {
+  on = λ t before. q.on t (p.on t before);
+  accounts = λ x f. subst (λ (d : ℕ). AccountsFor (record { before = x.before; dealt = d }) c w) (add_assoc x.dealt) (q.accounts (with_dealt n x) (p.accounts x f));
+  drained = q.drained ∙ p.drained;
+}
+  where
+    add_assoc : (d : ℕ) → (d + n) + m ≡ d + (n + m)
+    add_assoc d = omega arith
 
 abbrev pub show_slot : Option AskingState → Option AskingValue
 show_slot o = option_map asked_for o
@@ -128,14 +163,47 @@ none_asked : (b : AskingValue) → None ≡ Some b → ⊥
 none_asked b e = cc
 
 -- the clients' side went on, and the exchanges are the same
-pub goes_side : (v w : WholeLoop) → w.framing ≡ v.framing → Onward v.side w.side → w.asking ≡ v.asking → w.ended ≡ v.ended → Goes v w
-goes_side v w framing o asking ended =
-    onward v w record {
-      framing = framing;
-      side = o.on v.side (grow.continues_same v.side);
-      asking = λ i x is. (x, inl (ap (λ l. asked_at i l) asking ∙ is), asks_same x);
-      ended = grow.begins_is v.ended w.ended ended;
-    }
+continues_side : (framing : Framing) (asking : List (Option AskingState)) (ended : List (AskingState × Option Outcome)) (closing : List ClosedValue) (l m : LoopValue) → Continues l m
+    → ContinuesLoop (whole_loop framing l asking ended closing) (whole_loop framing m asking ended closing)
+continues_side framing asking ended closing l m c = record { framing = refl; side = c; asking = λ i x is. (x, inl is, asks_same x); ended = prefix-refl (whole_loop framing l asking ended closing).ended }
+
+module _ (framing : Framing) (asking : List (Option AskingState)) (ended : List (AskingState × Option Outcome)) (closing : List ClosedValue) (l m : LoopValue) where
+  abbrev before : WholeLoop
+  before = whole_loop framing l asking ended closing
+
+  abbrev after : WholeLoop
+  after = whole_loop framing m asking ended closing
+
+  goes_side : {a b : NetworkValue} → Onward l m → ((u : Account) → AccountsFor u a before → AccountsFor u b after) → Goes a b before after
+  goes_side {a} {b} o accounts = moves before after (continues_side framing asking ended closing l m (o.on l (grow.continues_same l))) accounts o.drained
+
+  pub goes_still : {a : NetworkValue} → Onward l m → IsStill l m → Goes a a before after
+  goes_still {a} o s = goes_side o (still_accounts framing asking ended closing l m a s)
+
+  pub goes_told : {a b : NetworkValue} → Onward l m → IsTold a b l m → Goes a b before after
+  goes_told {a} {b} o s = goes_side o (told_accounts framing asking ended closing l m a b s)
+
+  pub goes_gone : {a b : NetworkValue} → Onward l m → LetsGo a b l m → Goes a b before after
+  goes_gone {a} {b} o s = goes_side o (goes_accounts framing asking ended closing l m a b s)
+
+  pub admits_one : {a b : NetworkValue} → Onward l m → TakesIn a b l m → Admits 1 a b before after
+  admits_one {a} {b} o s = record {
+    on = λ u c. continues_then u before after c (continues_side framing asking ended closing l m (o.on l (grow.continues_same l)));
+    accounts = admits_accounts framing asking ended closing l m a b s;
+    drained = o.drained;
+  }
+
+  -- .. it was told to drain
+  pub drains_so : Continues l m → IsStill l m → (ContinuesLoop before after) × ((a : NetworkValue) → AccountsOn 0 a a before after)
+  drains_so c s = (continues_side framing asking ended closing l m c, λ a u f. subst (λ (x : Account). AccountsFor x a after) (sym (dealt_none u)) (still_accounts framing asking ended closing l m a s u f))
+
+-- streams that waited were closed
+pub goes_closes : {a b : NetworkValue} (framing : Framing) (l : LoopValue) (asking : List (Option AskingState)) (ended : List (AskingState × Option Outcome)) (closing closing' : List ClosedValue) → ClosesFrom a b closing closing'
+    → Goes a b (whole_loop framing l asking ended closing) (whole_loop framing l asking ended closing')
+goes_closes {a} {b} framing l asking ended closing closing' c =
+    moves (whole_loop framing l asking ended closing) (whole_loop framing l asking ended closing')
+    record { framing = refl; side = grow.continues_same l; asking = λ i x is. (x, inl is, asks_same x); ended = prefix-refl (whole_loop framing l asking ended closing).ended }
+    (closes_accounts framing l asking ended closing closing' a b c) refl
 
 module _ (old new : List (Option AskingState)) (i : ℕ) where
   -- what stands elsewhere stands there still
@@ -151,27 +219,37 @@ module _ (old new : List (Option AskingState)) (i : ℕ) where
   stands_at : (y : AskingState) (j : ℕ) → Put old new i (Some y) → j ≡ i → asked_at j (map (λ (s : Option AskingState). show_slot s) new) ≡ Some (asked_for y)
   stands_at y j put same = shown_at new j ∙ ap (λ (s : Option AskingState). show_slot s) (ap (λ (n : ℕ). slice_index_or new n None) same ∙ put.here)
 
-  -- one of them went on
-  pub goes_put : (framing : Framing) (v : LoopValue) (ended : List (AskingState × Option Outcome)) (x y : AskingState) → slice_index_or old i None ≡ Some x → Put old new i (Some y)
-      → AsksOn (asked_for x) (asked_for y) → Goes (whole_loop framing v old ended) (whole_loop framing v new ended)
-  goes_put framing v ended x y was put on =
-      onward (whole_loop framing v old ended) (whole_loop framing v new ended) record {
-        framing = refl;
-        side = grow.continues_same v;
-        asking = λ j z is.
-            ⊎_elim
-            (λ (same : j ≡ i).
-            (asked_for y, inl (stands_at y j put same), subst (λ (t : AskingValue). AsksOn t (asked_for y)) (some_asked (asked_for x) z (stood_at (Some x) j z was same is)) on))
-            (λ (other : j ≡ i → ⊥). (z, inl (stays_at (Some y) j z put other is), asks_same z))
-            (cases_eq j i);
-        ended = prefix-refl (whole_loop framing v old ended).ended;
-      }
+  continues_put : (framing : Framing) (v : LoopValue) (ended : List (AskingState × Option Outcome)) (closing : List ClosedValue) (x y : AskingState) → slice_index_or old i None ≡ Some x → Put old new i (Some y)
+      → AsksOn (asked_for x) (asked_for y) → ContinuesLoop (whole_loop framing v old ended closing) (whole_loop framing v new ended closing)
+  continues_put framing v ended closing x y was put on = record {
+    framing = refl;
+    side = grow.continues_same v;
+    asking = λ j z is.
+        ⊎_elim
+        (λ (same : j ≡ i).
+        (asked_for y, inl (stands_at y j put same), subst (λ (t : AskingValue). AsksOn t (asked_for y)) (some_asked (asked_for x) z (stood_at (Some x) j z was same is)) on))
+        (λ (other : j ≡ i → ⊥). (z, inl (stays_at (Some y) j z put other is), asks_same z))
+        (cases_eq j i);
+    ended = prefix-refl (whole_loop framing v old ended closing).ended;
+  }
+
+  -- one of them went on over the same streams
+  pub goes_put : (framing : Framing) (v : LoopValue) (ended : List (AskingState × Option Outcome)) (closing : List ClosedValue) (x y : AskingState) → slice_index_or old i None ≡ Some x → Put old new i (Some y)
+      → AsksOn (asked_for x) (asked_for y) → HasStreamsOf (asked_for x) (asked_for y) → (a : NetworkValue) → Goes a a (whole_loop framing v old ended closing) (whole_loop framing v new ended closing)
+  goes_put framing v ended closing x y was put on same a =
+      moves (whole_loop framing v old ended closing) (whole_loop framing v new ended closing) (continues_put framing v ended closing x y was put on) (put_accounts framing v v old new ended closing i a x y was put same) refl
+
+  -- .. over these or another
+  pub goes_over : {a b : NetworkValue} (framing : Framing) (v : LoopValue) (ended : List (AskingState × Option Outcome)) (closing : List ClosedValue) (x y : AskingState) → slice_index_or old i None ≡ Some x → Put old new i (Some y)
+      → AsksOn (asked_for x) (asked_for y) → Connects a b (asked_for x) (asked_for y) → Goes a b (whole_loop framing v old ended closing) (whole_loop framing v new ended closing)
+  goes_over {a} {b} framing v ended closing x y was put on connects =
+      moves (whole_loop framing v old ended closing) (whole_loop framing v new ended closing) (continues_put framing v ended closing x y was put on) (connects_accounts framing v v old new ended closing i a b x y was put connects) refl
 
   -- .. began
-  pub goes_begin : (framing : Framing) (v w : LoopValue) (ended : List (AskingState × Option Outcome)) (y : AskingState) → Onward v w → slice_index_or old i None ≡ None
-      → Put old new i (Some y) → Goes (whole_loop framing v old ended) (whole_loop framing w new ended)
-  goes_begin framing v w ended y o free put =
-      onward (whole_loop framing v old ended) (whole_loop framing w new ended) record {
+  pub goes_begin : (framing : Framing) (v w : LoopValue) (ended : List (AskingState × Option Outcome)) (closing : List ClosedValue) (y : AskingState) → Onward v w → IsStill v w → slice_index_or old i None ≡ None
+      → Put old new i (Some y) → (asked_for y).tried ≡ [] → (asked_for y).peer ≡ None → (a : NetworkValue) → Goes a a (whole_loop framing v old ended closing) (whole_loop framing w new ended closing)
+  goes_begin framing v w ended closing y o still free put none alone a =
+      moves (whole_loop framing v old ended closing) (whole_loop framing w new ended closing) record {
         framing = refl;
         side = o.on v (grow.continues_same v);
         asking = λ j z is.
@@ -179,17 +257,19 @@ module _ (old new : List (Option AskingState)) (i : ℕ) where
             (λ (same : j ≡ i). absurd (none_asked z (stood_at None j z free same is)))
             (λ (other : j ≡ i → ⊥). (z, inl (stays_at (Some y) j z put other is), asks_same z))
             (cases_eq j i);
-        ended = prefix-refl (whole_loop framing v old ended).ended;
+        ended = prefix-refl (whole_loop framing v old ended closing).ended;
       }
+      (begin_accounts framing v w old new ended closing i a y still free put none alone) o.drained
 
   -- .. ended
-  pub goes_ended : (framing : Framing) (v w : LoopValue) (ended ended' : List (AskingState × Option Outcome)) (x y : AskingState) (end : Option Outcome) → Onward v w
-      → slice_index_or old i None ≡ Some x → Put old new i None → ended' ≡ ended ++ (y, end) ∷ [] → AsksOn (asked_for x) (asked_for y)
-      → Goes (whole_loop framing v old ended) (whole_loop framing w new ended')
-  goes_ended framing v w ended ended' x y end o was put is_now on =
+  pub goes_ended : {a b : NetworkValue} (framing : Framing) (v w : LoopValue) (ended ended' : List (AskingState × Option Outcome)) (closing closing' streams : List ClosedValue) (x y : AskingState) (end : Option Outcome) → Onward v w → IsStill v w
+      → slice_index_or old i None ≡ Some x → Put old new i None → ended' ≡ ended ++ (y, end) ∷ [] → AsksOn (asked_for x) (asked_for y) → HasStreamsOf (asked_for x) (asked_for y)
+      → streams ≡ stream_now (asked_for y) → ClosesFrom a b (streams ++ closing) closing'
+      → Goes a b (whole_loop framing v old ended closing) (whole_loop framing w new ended' closing')
+  goes_ended {a} {b} framing v w ended ended' closing closing' streams x y end o still was put is_now on same stream closes =
       let show : AskingState × Option Outcome → EndedValue = λ (d : AskingState × Option Outcome). ended_value (asked_for d.0) d.1 in
       let more : map show ended' ≡ map show ended ++ show (y, end) ∷ [] = ap (map show) is_now ∙ map-append show ended ((y, end) ∷ []) in
-      onward (whole_loop framing v old ended) (whole_loop framing w new ended') record {
+      moves (whole_loop framing v old ended closing) (whole_loop framing w new ended' closing') record {
         framing = refl;
         side = o.on v (grow.continues_same v);
         asking = λ j z is.
@@ -200,12 +280,12 @@ module _ (old new : List (Option AskingState)) (i : ℕ) where
             (cases_eq j i);
         ended = (show (y, end) ∷ [], more);
       }
+      (end_accounts framing v w old new ended closing i a b x y end ended' closing' streams still was put same is_now stream closes) o.drained
 
-pub ticked_on : (u v w : WholeLoop) → HasTicked u.side v.side → Goes v w → HasTicked u.side w.side
-ticked_on u v w t o = grind (arith, nat_tests, goes_on, append_assoc)
-
-pub ticked_same : (u v w : WholeLoop) → HasTicked u.side v.side → w.side.told ≡ v.side.told → HasTicked u.side w.side
-ticked_same u v w t is = (t.0, t.1, is ∙ t.2)
+pub ticked_on : (u v w : WholeLoop) → HasTicked u.side v.side → ContinuesLoop v w → HasTicked u.side w.side
+ticked_on u v w t c =
+    let told = c.side.told in
+    (t.0, t.1 ++ told.0, told.1 ∙ ap (λ (l : List ℕ). l ++ told.0) t.2 ∙ append_assoc u.side.told (t.0 ∷ t.1) told.0)
 
 -- ---- how many are asked for
 
@@ -277,9 +357,9 @@ HasUntouched y = y.attempt.connected ≡ false → y.attempt.got ≡ []
 framed_by : (framing : Framing) (y : AskingState) → y.framing ≡ framing → HasUntouched y → (x : AskingState) → Some y ≡ Some x → IsFramed framing x
 framed_by framing y framed untouched x is = subst (λ (t : AskingState). IsFramed framing t) (some_state y x is) ((framed, untouched))
 
--- what holds of a loop with these clients, jobs and ends
+-- what holds of a loop with these clients, jobs and ends, whatever streams wait to be closed
 abbrev pub Keeps : Framing → LoopValue → List (Option AskingState) → List (AskingState × Option Outcome) → Type 0
-Keeps framing v asking ended = AsksFairly (whole_loop framing v asking ended) × AreFramed framing asking
+Keeps framing v asking ended = AsksFairly (whole_loop framing v asking ended []) × AreFramed framing asking
 
 -- one of them went on with its job
 pub keeps_put : (framing : Framing) (v : LoopValue) (old new : List (Option AskingState)) (ended : List (AskingState × Option Outcome)) (i : ℕ) (x y : AskingState)
@@ -294,16 +374,23 @@ keeps_put framing v old new ended i x y was job framed put begun untouched k = (
         let count = count_put p old new i (Some x) (Some y) was put in
         let same : one_asked p (Some y) ≡ one_asked p (Some x) = ap (λ (j : HandedJob). cond (p j.job) 1 0) job in
         let is : sum_by (one_asked p) new ≡ sum_by (one_asked p) old = omega (arith, count, same) in
-        k.0.jobs p ∙ ap (λ n. count_by (λ (e : EndedValue). p e.asking.job) (whole_loop framing v old ended).ended + n) (shown_count p old ∙ sym is ∙ sym (shown_count p new));
+        k.0.jobs p ∙ ap (λ n. count_by (λ (e : EndedValue). p e.asking.job) (whole_loop framing v old ended []).ended + n) (shown_count p old ∙ sym is ∙ sym (shown_count p new));
   },
   framed_put framing old new i (Some y) put (framed_by framing y (framed ∙ (k.1 i x was).0) untouched) k.1,
 )
 
+pub same_streams : (x y : AskingState) → y.tried ≡ x.tried → y.attempt.peer ≡ x.attempt.peer → HasStreamsOf (asked_for x) (asked_for y)
+same_streams x y tried peer = record { tried = tried; peer = peer }
+
 -- one of them was taken out, went on with its job, and was put back
 module _ (framing : Framing) (v : LoopValue) (ended : List (AskingState × Option Outcome)) {s t u : Slab AskingState} {i key : ℕ} {x y : AskingState} where
-  pub goes_back : Updates s t i None → t.vacant_key ≡ i → key ≡ t.vacant_key → Updates t u key (Some y) → slice_index_or s.slots i None ≡ Some x
-      → AsksOn (asked_for x) (asked_for y) → Goes (whole_loop framing v s.slots ended) (whole_loop framing v u.slots ended)
-  goes_back out next is back was on = goes_put s.slots u.slots i framing v ended x y was (put_back s t u i key y out next is back) on
+  pub goes_back : (closing : List ClosedValue) → Updates s t i None → t.vacant_key ≡ i → key ≡ t.vacant_key → Updates t u key (Some y) → slice_index_or s.slots i None ≡ Some x
+      → AsksOn (asked_for x) (asked_for y) → HasStreamsOf (asked_for x) (asked_for y) → (a : NetworkValue) → Goes a a (whole_loop framing v s.slots ended closing) (whole_loop framing v u.slots ended closing)
+  goes_back closing out next is back was on same = goes_put s.slots u.slots i framing v ended closing x y was (put_back s t u i key y out next is back) on same
+
+  pub over_back : {a b : NetworkValue} (closing : List ClosedValue) → Updates s t i None → t.vacant_key ≡ i → key ≡ t.vacant_key → Updates t u key (Some y) → slice_index_or s.slots i None ≡ Some x
+      → AsksOn (asked_for x) (asked_for y) → Connects a b (asked_for x) (asked_for y) → Goes a b (whole_loop framing v s.slots ended closing) (whole_loop framing v u.slots ended closing)
+  over_back {a} {b} closing out next is back was on connects = goes_over s.slots u.slots i framing v ended closing x y was (put_back s t u i key y out next is back) on connects
 
   pub keeps_back : Updates s t i None → t.vacant_key ≡ i → key ≡ t.vacant_key → Updates t u key (Some y) → slice_index_or s.slots i None ≡ Some x
       → y.job ≡ x.job → y.framing ≡ x.framing → BeginsRequest (asked_for y) → HasUntouched y → Keeps framing v s.slots ended → Keeps framing v u.slots ended
@@ -382,5 +469,10 @@ ends_one framing v w old new ended ended' i x y o j results same was job framed 
 pub starts_fair : (framing : Framing) (v : LoopValue) → v.results ≡ [] → v.handed ≡ [] → Keeps framing v [] []
 starts_fair framing v no_results none_handed = (fair, λ i x is. absurd (none_state x is))
   where
-    fair : AsksFairly (whole_loop framing v [] [])
+    fair : AsksFairly (whole_loop framing v [] [] [])
     fair = search arith
+
+-- .. and whichever those are
+pub fair_closing : (framing : Framing) (v : LoopValue) (asking : List (Option AskingState)) (ended : List (AskingState × Option Outcome)) (closing : List ClosedValue)
+    → AsksFairly (whole_loop framing v asking ended []) → AsksFairly (whole_loop framing v asking ended closing)
+fair_closing framing v asking ended closing a = record { results = a.results; fair = a.fair; begun = a.begun; jobs = a.jobs }

@@ -1,5 +1,7 @@
 -- How many clients have a connection.
-use Rattle.gateway_loop.proofs.Words.{◌≡◌, ◌≢◌, ℕ, suc, ◌+◌, Bool, false, cond, List, [], ◌∷◌, ◌++◌, Option, None, Some, refl, ap, ◌∙◌, arith, ◌==◌, count_by, option_map_or, sum_by-append, sum_by-cons, ClientValue, LoopValue, at, count_of, one_below}
+use Rattle.gateway_loop.proofs.Words.{◌≡◌, ◌≢◌, ℕ, suc, ◌+◌, Bool, false, cond, List, [], ◌∷◌, ◌++◌, Option, None, Some, refl, ap, ◌∙◌, arith, ◌==◌, count_by, option_map_or, sum_by-append, sum_by-cons, ClientValue, LoopValue, at, count_of, is_some, one_below}
+use Rattle.loop_model.specs.Standing.{count_clients}
+use Rattle.gateway_loop.proofs.Places.{Put}
 use Rattle.std.proofs.lemmas.Bool.Decides.{nat_tests}
 use Rattle.gateway_loop.proofs.SumLemmas.{sum_put}
 
@@ -53,3 +55,25 @@ count_same l m c clients gone = rw (clients, gone) refl
 -- one connection more
 pub one_more : (c n : ℕ) → one_below c n + cond (n == c) 1 0 ≡ one_below c (suc n)
 one_more c n = search arith
+
+-- ---- how many are there
+
+module _ (old new : List (Option ClientValue)) (i : ℕ) where
+  abbrev one_there : Option ClientValue → ℕ
+  one_there o = cond (is_some o) 1 0
+
+  there_put : (o n : Option ClientValue) → at i old ≡ o → Put old new i n → count_clients new + one_there o ≡ count_clients old + one_there n
+  there_put o n was put =
+      let changed : count_clients new + one_there (at i old) ≡ count_clients old + one_there (at i new) = sum_put one_there refl old new i put.there in
+      let before = ap one_there was in
+      let after = ap one_there put.here in
+      omega (arith, changed, before, after)
+
+  pub there_still : (x y : ClientValue) → at i old ≡ Some x → Put old new i (Some y) → count_clients new ≡ count_clients old
+  there_still x y was put = let changed : count_clients new + 1 ≡ count_clients old + 1 = there_put (Some x) (Some y) was put in omega (arith, changed)
+
+  pub there_goes : (x : ClientValue) → at i old ≡ Some x → Put old new i None → count_clients old ≡ count_clients new + 1
+  there_goes x was put = let changed : count_clients new + 1 ≡ count_clients old + 0 = there_put (Some x) None was put in omega (arith, changed)
+
+  pub there_comes : (y : ClientValue) → at i old ≡ None → Put old new i (Some y) → count_clients new ≡ count_clients old + 1
+  there_comes y was put = let changed : count_clients new + 0 ≡ count_clients old + 1 = there_put None (Some y) was put in omega (arith, changed)

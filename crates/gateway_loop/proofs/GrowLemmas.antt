@@ -1,6 +1,8 @@
 -- What only grows.
-use Rattle.gateway_loop.proofs.Words.{Ready, ◌≡◌, ℕ, List, [], ◌∷◌, ◌++◌, map, Option, None, Some, refl, sym, ap, ◌∙◌, subst, append_assoc, append-nil, inl, inr, ⊎_elim, Bool, false, arith, ◌+◌, count_by, option_map_or, Contains, cases_eq, Contains-append_left, Contains-push, map-append, sum_by-cons, entries_from, Outcome, HandedJob, JobValue, IsPrefixOf, ClientValue, client_value, LoopValue, at, Continues, Grows, Onward, lingering, prefix-refl, prefix-trans}
+use Rattle.gateway_loop.proofs.Words.{Ready, ◌≡◌, ℕ, List, [], ◌∷◌, ◌++◌, map, Option, None, Some, refl, sym, ap, ◌∙◌, subst, append-nil, inl, inr, ⊎_elim, Bool, false, arith, ◌+◌, count_by, option_map_or, Contains, cases_eq, Contains-append_left, Contains-push, map-append, sum_by-cons, entries_from, Outcome, HandedJob, JobValue, IsPrefixOf, ClientValue, ClosedValue, client_value, LoopValue, at, Continues, Grows, GoesOn, Onward, lingering, prefix-refl, prefix-trans}
 use Rattle.std.proofs.lemmas.Bool.Decides.{nat_tests}
+use Rattle.gateway_loop.proofs.LeadLemmas.{extends_none, extends_then}
+use Rattle.gateway_loop.proofs.LoopLemmas.{SameRest}
 use Rattle.gateway_loop.proofs.Places.{Put}
 
 pub begins_by : {A : Type 0} (xs ys more : List A) → ys ≡ xs ++ more → IsPrefixOf xs ys
@@ -20,6 +22,9 @@ contains_more xs ys x p there = subst (λ l. Contains l x) (sym p.1) (Contains-a
 
 pub continues_then : (u v w : LoopValue) → Continues u v → Continues v w → Continues u w
 continues_then u v w a b = record {
+  history = λ unknown h held.
+      let first = a.history unknown h held in
+      let second = b.history unknown first.0 first.1 in (second.0, second.1, extends_then h first.0 second.0 first.2 second.2);
   plans = b.plans ∙ a.plans;
   clients = λ i x is.
       let first = a.clients i x is in
@@ -30,45 +35,47 @@ continues_then u v w a b = record {
   gone = prefix-trans u.gone v.gone w.gone a.gone b.gone;
   told = prefix-trans u.told v.told w.told a.told b.told;
   results = prefix-trans u.results v.results w.results a.results b.results;
+  unserved = prefix-trans u.unserved v.unserved w.unserved a.unserved b.unserved;
   handed = prefix-trans u.handed v.handed w.handed a.handed b.handed;
-  drained = b.drained ∙ a.drained;
 }
 
-pub onward : (v w : LoopValue) → Continues v w → Onward v w
-onward v w c = record { on = λ u a. continues_then u v w a c }
+pub onward : (v w : LoopValue) → w.drained ≡ v.drained → Continues v w → Onward v w
+onward v w drained c = record { on = λ u a. continues_then u v w a c; drained = drained }
 
 pub continues_same : (v : LoopValue) → Continues v v
 continues_same v = record {
+  history = λ unknown h held. (h, held, extends_none h);
   plans = refl;
   clients = λ i x is. (x, inl is, grows_same x);
   gone = prefix-refl v.gone;
+  unserved = prefix-refl v.unserved;
   told = prefix-refl v.told;
   results = prefix-refl v.results;
   handed = prefix-refl v.handed;
-  drained = refl;
 }
 
 some_is : (a b : ClientValue) → Some a ≡ Some b → a ≡ b
 some_is a b it = cc
 
 -- no client changed
-pub continues_all : (v w : LoopValue) → w.core.plans ≡ v.core.plans → w.clients ≡ v.clients → w.gone ≡ v.gone → w.drained ≡ v.drained
+pub continues_all : (v w : LoopValue) → GoesOn v w → w.core.plans ≡ v.core.plans → w.clients ≡ v.clients → w.gone ≡ v.gone → IsPrefixOf v.unserved w.unserved
     → IsPrefixOf v.told w.told → IsPrefixOf v.results w.results → IsPrefixOf v.handed w.handed → Continues v w
-continues_all v w plans clients gone drained told results handed = record {
+continues_all v w history plans clients gone unserved told results handed = record {
+  history = history;
   plans = plans;
   clients = λ i x is. (x, inl (ap (λ cs. at i cs) clients ∙ is), grows_same x);
   gone = begins_is v.gone w.gone gone;
+  unserved = unserved;
   told = told;
   results = results;
   handed = handed;
-  drained = drained;
 }
 
-module _ (v w : LoopValue) (plans : w.core.plans ≡ v.core.plans) (told : w.told ≡ v.told) (results : w.results ≡ v.results) (handed : w.handed ≡ v.handed)
-    (drained : w.drained ≡ v.drained) (i : ℕ) where
+module _ (v w : LoopValue) (history : GoesOn v w) (plans : w.core.plans ≡ v.core.plans) (rest : SameRest v w) (i : ℕ) where
   -- the client in a place grew
   pub continues_put : (x y : ClientValue) → at i v.clients ≡ Some x → Grows x y → Put v.clients w.clients i (Some y) → w.gone ≡ v.gone → Continues v w
   continues_put x y its grows puts gone = record {
+    history = history;
     plans = plans;
     clients = λ j z is.
         ⊎_elim
@@ -78,15 +85,16 @@ module _ (v w : LoopValue) (plans : w.core.plans ≡ v.core.plans) (told : w.tol
         (λ (other : j ≡ i → ⊥). (z, inl (puts.there j other ∙ is), grows_same z))
         (cases_eq j i);
     gone = begins_is v.gone w.gone gone;
-    told = begins_is v.told w.told told;
-    results = begins_is v.results w.results results;
-    handed = begins_is v.handed w.handed handed;
-    drained = drained;
+    unserved = begins_is v.unserved w.unserved rest.unserved;
+    told = begins_is v.told w.told rest.told;
+    results = begins_is v.results w.results rest.results;
+    handed = begins_is v.handed w.handed rest.handed;
   }
 
   -- .. has gone
   pub continues_go : (x : ClientValue) → at i v.clients ≡ Some x → Put v.clients w.clients i None → w.gone ≡ v.gone ++ x ∷ [] → Continues v w
   continues_go x its puts gone = record {
+    history = history;
     plans = plans;
     clients = λ j z is.
         ⊎_elim
@@ -96,15 +104,16 @@ module _ (v w : LoopValue) (plans : w.core.plans ≡ v.core.plans) (told : w.tol
         (λ (other : j ≡ i → ⊥). (z, inl (puts.there j other ∙ is), grows_same z))
         (cases_eq j i);
     gone = begins_by v.gone w.gone (x ∷ []) gone;
-    told = begins_is v.told w.told told;
-    results = begins_is v.results w.results results;
-    handed = begins_is v.handed w.handed handed;
-    drained = drained;
+    unserved = begins_is v.unserved w.unserved rest.unserved;
+    told = begins_is v.told w.told rest.told;
+    results = begins_is v.results w.results rest.results;
+    handed = begins_is v.handed w.handed rest.handed;
   }
 
   -- .. came
   pub continues_come : (y : ClientValue) → at i v.clients ≡ None → Put v.clients w.clients i (Some y) → w.gone ≡ v.gone → Continues v w
   continues_come y free puts gone = record {
+    history = history;
     plans = plans;
     clients = λ j z is.
         ⊎_elim
@@ -112,10 +121,10 @@ module _ (v w : LoopValue) (plans : w.core.plans ≡ v.core.plans) (told : w.tol
         (λ (other : j ≡ i → ⊥). (z, inl (puts.there j other ∙ is), grows_same z))
         (cases_eq j i);
     gone = begins_is v.gone w.gone gone;
-    told = begins_is v.told w.told told;
-    results = begins_is v.results w.results results;
-    handed = begins_is v.handed w.handed handed;
-    drained = drained;
+    unserved = begins_is v.unserved w.unserved rest.unserved;
+    told = begins_is v.told w.told rest.told;
+    results = begins_is v.results w.results rest.results;
+    handed = begins_is v.handed w.handed rest.handed;
   }
     where
       nothing : (z : ClientValue) → None ≡ Some z → ⊥
@@ -143,6 +152,9 @@ grows_moved x reads writes watched reported more = record { conn = refl; given =
 pub noted : {A B : Type 0} (items later : List (A × B)) (a : A) (b : B) → later ≡ items ++ (a, b) ∷ [] → map (λ (x : A × B). x.0) later ≡ map (λ (x : A × B). x.0) items ++ a ∷ []
 noted {A} {B} items later a b is = ap (λ (l : List (A × B)). map (λ (x : A × B). x.0) l) is ∙ map-append (λ (x : A × B). x.0) items ((a, b) ∷ [])
 
+pub noted_away : {W : Type 0} (f : W → ClosedValue) (items later : List (W × Bool)) (w : W) (b : Bool) → later ≡ items ++ (w, b) ∷ [] → map (λ (x : W × Bool). f x.0) later ≡ map (λ (x : W × Bool). f x.0) items ++ f w ∷ []
+noted_away {W} f items later w b is = ap (λ (l : List (W × Bool)). map (λ (x : W × Bool). f x.0) l) is ∙ map-append (λ (x : W × Bool). f x.0) items ((w, b) ∷ [])
+
 abbrev told_result : HandedJob × Option Outcome → JobValue × Option Outcome
 told_result r = (r.0.job, r.1)
 
@@ -153,9 +165,6 @@ noted_result items later j o is = grind (arith, nat_tests, map-append)
 pub noted_job : (items later : List (HandedJob × Bool)) (j : HandedJob) (b : Bool) → later ≡ items ++ (j, b) ∷ []
     → map (λ (x : HandedJob × Bool). x.0.job) later ≡ map (λ (x : HandedJob × Bool). x.0.job) items ++ j.job ∷ []
 noted_job items later j b is = grind (arith, nat_tests, map-append)
-
-pub tells_one : (before after was now : List ℕ) (m : ℕ) → after ≡ before ++ m ∷ [] → now ≡ was ++ m ∷ [] → (u : List ℕ) → before ≡ u ++ was → after ≡ u ++ now
-tells_one before after was now m told more u is = grind (arith, nat_tests, append_assoc)
 
 -- ---- moments that were told
 

@@ -1,8 +1,11 @@
 -- What one event more makes of each connection.
-use Rattle.gateway_loop.proofs.Words.{◌≡◌, ℕ, suc, ◌<◌, ◌≤◌, Bool, true, false, List, [], ◌∷◌, ◌++◌, length, Option, None, refl, sym, ap, ◌∙◌, subst, arith, append_assoc, ◌||◌, ◌==◌, map, ⊤, eq-eqb, ltb-false, ltb-true, ne_eqb, map-append, PlanRecord, Event, Opening, Piece, HangUp, Closing, Before, Occurs, OccursAt, connections, hung_up, is_closing_of, is_hang_up_of, is_open, once, onto, piece_of, stream, succeeds, History, after_event, after_jobs, after_opening, JobValue, Past, arrivals, coming_on, mark_of, marked, queued_entries, Placed, occurrences, after_reply, Follows, IsStreamOf, Leads}
+use Rattle.gateway_loop.proofs.Words.{◌≡◌, ℕ, suc, ◌+◌, ◌<◌, ◌≤◌, Bool, true, false, List, [], ◌∷◌, ◌++◌, length, Option, None, refl, sym, ap, ◌∙◌, subst, arith, append_assoc, ◌||◌, ◌==◌, map, ⊤, eq-eqb, ltb-false, ltb-true, ne_eqb, map-append, PlanRecord, Event, Opening, Piece, HangUp, Closing, Before, Occurs, OccursAt, connections, hung_up, is_closing_of, is_hang_up_of, is_open, once, onto, piece_of, stream, succeeds, History, after_event, after_jobs, after_opening, JobValue, Past, arrivals, coming_on, mark_of, marked, queued_entries, Placed, occurrences, after_reply, Extends, Follows, IsPrefixOf, IsStreamOf, Leads, prefix-refl, prefix-trans}
+use Rattle.std.proofs.lemmas.List.{length-append}
 use Rattle.std.proofs.lemmas.Bool.Decides.{nat_tests}
 use Rattle.gateway_model.specs.Occurrence.{Coming, Comes, Occurrence}
+use Rattle.gateway_model.specs.declared.entry.ReplyEntry.{ReplyEntry}
 use Rattle.gateway_theory.specs.Replies.{ReplyValue}
+use Rattle.std.specs.Prelude.{option_map, option_to_list, if◌then◌else◌}
 use Rattle.gateway_theory.specs.lemmas.OneEvent.{same_openings, born_hung, born_open, born_stream, deaf_stream, kept_open, shut_deaf, shut_hung, stays_shut}
 use Rattle.gateway_theory.specs.lemmas.ServedOpens.{grown, occurs_before, succeeds_more, unopened_shut as unborn_open}
 use Rattle.gateway_theory.specs.lemmas.CutLemmas.{connections_grow}
@@ -65,6 +68,20 @@ leads_then plans own h k l a b = record {
       };
 }
 
+pub extends_none : (h : History) → Extends h h
+extends_none h = record { later = []; events_are = refl; openings = λ place lt. refl; taken = λ c. prefix-refl (h.taken c); handed = prefix-refl h.handed }
+
+pub extends_then : (h k l : History) → Extends h k → Extends k l → Extends h l
+extends_then h k l a b = record {
+  later = b.later ++ a.later;
+  events_are = b.events_are ∙ ap (λ (es : Before). b.later ++ es) a.events_are ∙ sym (append_assoc b.later a.later h.events);
+  openings = λ place lt.
+      let more : length k.events ≡ length a.later + length h.events = ap (λ (es : Before). length es) a.events_are ∙ length-append a.later h.events in
+      b.openings place (omega (arith, more, lt)) ∙ a.openings place lt;
+  taken = λ c. prefix-trans (h.taken c) (k.taken c) (l.taken c) (a.taken c) (b.taken c);
+  handed = prefix-trans h.handed k.handed l.handed a.handed b.handed;
+}
+
 -- ---- an event
 
 -- the event does not concern the connection
@@ -108,6 +125,25 @@ leads_event plans own e h away = record {
   follows = λ later all. follows_event plans e h later all;
 }
 
+pub extends_event : (e : Event) (h : History) → Extends h (after_event e h)
+extends_event e h = record { later = e ∷ []; events_are = refl; openings = λ place lt. refl; taken = λ c. prefix-refl (h.taken c); handed = prefix-refl h.handed }
+
+begins_if : (b : Bool) (taken more : List ReplyEntry) → IsPrefixOf taken (if b then taken ++ more else taken)
+begins_if true taken more = (more, refl)
+begins_if false taken more = prefix-refl taken
+
+pub extends_reply : (n : ℕ) (reply : Option ReplyValue) (h : History) → Extends h (after_reply n reply h)
+extends_reply n reply h = record {
+  later = [];
+  events_are = refl;
+  openings = λ place lt. refl;
+  taken = λ c. begins_if (c == n) (h.taken c) (option_to_list (option_map (λ (r : ReplyValue). r.entry) reply));
+  handed = prefix-refl h.handed;
+}
+
+pub extends_jobs : (jobs : List JobValue) (h : History) → Extends h (after_jobs jobs h)
+extends_jobs jobs h = record { later = []; events_are = refl; openings = λ place lt. refl; taken = λ c. prefix-refl (h.taken c); handed = (jobs, refl) }
+
 -- a reply or jobs were taken, and no event came
 pub leads_reply : (plans : List PlanRecord) (n : ℕ) (reply : Option ReplyValue) (h : History) → Leads plans (λ c. c == n) h (after_reply n reply h)
 leads_reply plans n reply h = search arith
@@ -146,6 +182,15 @@ module _ (h : History) (below : (place : ℕ) → succeeds h.opened place ≡ tr
         follows = λ later (past, occurred, (os, at, is)).
             onto_follows plans h (length h.events) os past later (occurs_before plans h.opened more (length h.events) h.events past (omega arith) (grown h.opened (length h.events) below) occurred) is;
       }
+
+  pub extends_opening : Extends h (after_opening h)
+  extends_opening = record {
+    later = Opening ∷ [];
+    events_are = refl;
+    openings = λ place lt. (grown h.opened (length h.events) below).before place lt;
+    taken = λ c. prefix-refl (h.taken c);
+    handed = prefix-refl h.handed;
+  }
 
   -- the connection that opened
   pub born_known : connections h.opened h.events < connections more (Opening ∷ h.events)

@@ -5,8 +5,10 @@ pub mod StepLemmas
 pub mod SumLemmas
 pub mod CountLemmas
 pub mod LoopLemmas
-pub mod ServingLemmas
+pub mod HistoryLemmas
 pub mod GrowLemmas
 pub mod AskLemmas
 pub mod RestLemmas
 pub mod TellLemmas
+pub mod AccountLemmas
+pub mod ClosingLemmas

@@ -36,15 +36,22 @@ pub record SameRest (l m : LoopValue) : Type 0 where
   pub results : m.results ≡ l.results
   pub handed : m.handed ≡ l.handed
   pub drained : m.drained ≡ l.drained
+  pub unserved : m.unserved ≡ l.unserved
 
-module _ (unknown : Outcome) (laws : LoopLaws) (plans : List PlanRecord) (moment : ℕ) (l m : LoopValue) where
-  rest_kept : (h k : History) → IsQuiet h k → SameRest l m → HoldsRest unknown h moment l → HoldsRest unknown k moment m
-  rest_kept h k quiet rest held = search arith
+module _ (unknown : Outcome) (laws : LoopLaws) (plans : List PlanRecord) (l m : LoopValue) where
+  rest_kept : (h k : History) → IsQuiet h k → SameRest l m → HoldsRest unknown h l → HoldsRest unknown k m
+  rest_kept h k quiet rest held = record {
+    told = rw (rest.told, quiet.moments_are) held.told;
+    results = rw (rest.results, quiet.results_are) held.results;
+    handed = quiet.handed_are ∙ held.handed ∙ sym rest.handed;
+    drained = quiet.drains_are ∙ held.drained ∙ sym rest.drained;
+    unserved = rw rest.unserved held.unserved;
+  }
 
   -- the client in a place made steps
   pub held_steps : (h k : History) (i : ℕ) (x y : ClientValue) → at i l.clients ≡ Some x → y.conn ≡ x.conn → Fits plans k y
       → Leads plans (λ c. c == x.conn) h k → IsQuiet h k → OpensNone h k → Put l.clients m.clients i (Some y) → m.gone ≡ l.gone → SameRest l m
-      → IsHeld unknown plans h moment l → IsHeld unknown plans k moment m
+      → IsHeld unknown plans h l → IsHeld unknown plans k m
   held_steps h k i x y its same fits leads quiet opens puts gone rest held = record {
     fits = λ j z is. elim (among l.clients m.clients i (Some y) puts j z is) [
       | Here at_it it ↦ subst (λ (w : ClientValue). Fits plans k w) (some_is y z it) fits
@@ -70,7 +77,7 @@ module _ (unknown : Outcome) (laws : LoopLaws) (plans : List PlanRecord) (moment
   -- it goes
   pub held_goes : (h k : History) (i : ℕ) (x : ClientValue) → at i l.clients ≡ Some x → HasStood plans k x
       → Leads plans (λ c. c == x.conn) h k → IsQuiet h k → OpensNone h k → Put l.clients m.clients i None → m.gone ≡ l.gone ++ x ∷ [] → SameRest l m
-      → IsHeld unknown plans h moment l → IsHeld unknown plans k moment m
+      → IsHeld unknown plans h l → IsHeld unknown plans k m
   held_goes h k i x its stood leads quiet opens puts gone rest held = record {
     fits = λ j z is. elim (among l.clients m.clients i None puts j z is) [
       | Here at_it it ↦ absurd (no_some z it)
@@ -95,7 +102,7 @@ module _ (unknown : Outcome) (laws : LoopLaws) (plans : List PlanRecord) (moment
       → ((x : ClientValue) → Fits plans h x → x.conn < connections h.opened h.events)
       → Leads plans nobodys h k → IsQuiet h k → connections k.opened k.events ≡ suc (connections h.opened h.events) → at i l.clients ≡ None
       → Put l.clients m.clients i (Some y) → m.gone ≡ l.gone → SameRest l m
-      → IsHeld unknown plans h moment l → IsHeld unknown plans k moment m
+      → IsHeld unknown plans h l → IsHeld unknown plans k m
   held_comes h k i y fits new older leads quiet opens vacant puts gone rest held = record {
     fits = λ j z is. elim (among l.clients m.clients i (Some y) puts j z is) [
       | Here at_it it ↦ subst (λ (w : ClientValue). Fits plans k w) (some_is y z it) fits

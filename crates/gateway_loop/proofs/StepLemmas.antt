@@ -10,7 +10,7 @@ use Rattle.gateway_model.specs.Run.{bytes_of}
 use Rattle.gateway_theory.specs.Replies.{ReplyValue}
 use Rattle.gateway_theory.specs.Served.{with_reply}
 use Rattle.gateway_theory.specs.lemmas.OneEvent.{kept_open, now_hung, shut_open}
-use Rattle.gateway_loop.proofs.LeadLemmas.{Elsewhere, born_is_open, born_known, born_on, born_queue, born_text, closing_elsewhere, follows_event, leads_event, leads_reply, leads_then}
+use Rattle.gateway_loop.proofs.LeadLemmas.{Elsewhere, born_is_open, born_known, born_on, born_queue, born_text, closing_elsewhere, follows_event, leads_event, leads_none, leads_reply, leads_then, extends_event, extends_none, extends_reply, extends_then}
 use Rattle.gateway_theory.specs.lemmas.ServedLemmas.{hung_still as kept_hung, text_still as kept_stream}
 
 pub prefix_then : (a b c : List ℕ) → IsPrefixOf a b → IsPrefixOf b c → IsPrefixOf a c
@@ -63,7 +63,19 @@ quiet_event e h no_moment no_result no_drain = grind (arith, nat_tests, append-n
 -- ---- steps
 
 pub steps_fit : (v : GatewayValue) (x y : ClientValue) → FitsOn x y → MakesSteps v v x y
-steps_fit v x y on = search arith
+steps_fit v x y on = record {
+  conn = on.conn;
+  plans = refl;
+  steps = λ plans h are served f. record {
+    later = h;
+    serves = served;
+    fits = on.fits plans h f;
+    leads = leads_none plans (λ c. c == x.conn) h;
+    quiet = record { moments_are = refl; results_are = refl; drains_are = refl; handed_are = refl };
+    opens = refl;
+    extends = extends_none h;
+  };
+}
 
 pub steps_then : (u v w : GatewayValue) (x y z : ClientValue) → MakesSteps u v x y → MakesSteps v w y z → MakesSteps u w x z
 steps_then u v w x y z first second = record {
@@ -79,6 +91,7 @@ steps_then u v w x y z first second = record {
             (subst (λ (n : ℕ). Leads plans (λ c. c == n) a.later b.later) first.conn b.leads);
         quiet = quiet_then h a.later b.later a.quiet b.quiet;
         opens = b.opens ∙ a.opens;
+        extends = extends_then h a.later b.later a.extends b.extends;
       };
 }
 
@@ -127,6 +140,7 @@ steps_event v w x y e same conn takes fits away no_moment no_result no_drain no_
     leads = leads_event plans (λ c. c == x.conn) e h away;
     quiet = quiet_event e h no_moment no_result no_drain;
     opens = rw no_opening refl;
+    extends = extends_event e h;
   };
 }
 
@@ -144,6 +158,7 @@ steps_reply v w x y reply same conn takes fits = record {
     leads = leads_reply plans x.conn reply h;
     quiet = record { moments_are = refl; results_are = refl; drains_are = refl; handed_are = refl };
     opens = refl;
+    extends = extends_reply x.conn reply h;
   };
 }
 
@@ -173,6 +188,32 @@ fits_dropped conn n lingers ended ended' given got waiting given' got' piece lef
             all_fed = λ off. absurd (off_is_not lingers off left);
             hangs_up = λ off. absurd (off_is_not lingers off left);
             no_other = λ hung. same ∙ e.no_other hung;
+            written = λ occurred all.
+                subst (λ (t : List ℕ). IsPrefixOf (t ++ waiting) (queued conn (marked (occurrences occurred)))) (sym same_got) (e.written occurred all);
+          };
+          closed = s.closed;
+        };
+  };
+}
+
+-- .. its end was found
+pub fits_over : {reads writes reads' writes' : Bool} {watched watched' : Option (ℕ × Bool)} {reported reported' : List Ready} {until : Option ℕ} → (conn : ℕ) (lingers ended ended' : Bool) (given got waiting given' got' : List ℕ) → lingers ≡ true
+    → given' ≡ given → got' ≡ got → ended' ≡ true
+    → FitsOn (client_value conn lingers given got ended waiting reads writes watched reported until) (client_value conn lingers given' got' ended' waiting reads' writes' watched' reported' until)
+fits_over conn lingers ended ended' given got waiting given' got' left same_given same_got now = record {
+  conn = refl;
+  fits = λ plans h f. record {
+    stands = λ off. absurd (off_is_not lingers off left);
+    stood = λ on.
+        let s = f.stood on in
+        let e = s.explained in record {
+          explained = record {
+            known = e.known;
+            dropped = e.dropped;
+            read = same_given ∙ e.read;
+            all_fed = λ off. absurd (off_is_not lingers off left);
+            hangs_up = λ off. absurd (off_is_not lingers off left);
+            no_other = λ hung. now;
             written = λ occurred all.
                 subst (λ (t : List ℕ). IsPrefixOf (t ++ waiting) (queued conn (marked (occurrences occurred)))) (sym same_got) (e.written occurred all);
           };

@@ -1,5 +1,5 @@
 -- What reports change.
-use Rattle.gateway_loop.proofs.Words.{◌≡◌, ℕ, zero, suc, Bool, true, false, List, [], ◌∷◌, ◌++◌, map, Option, None, Some, refl, sym, ap, ◌∙◌, option_map, slice_index_or, AskingState, AskingValue, HasTicked, WholeLoop, Ready, asked_for, asked_at, changed_at, tell, tell_all, tell_in, told_asking}
+use Rattle.gateway_loop.proofs.Words.{◌≡◌, ℕ, zero, suc, Bool, true, false, List, [], ◌∷◌, ◌++◌, map, Option, None, Some, refl, sym, ap, ◌∙◌, option_map, slice_index_or, AskingState, AskingValue, HasTicked, WholeLoop, Ready, asked_for, asked_at, changed_at, tell, tell_all, tell_in, told_asking, ContinuesLoop, ClosedValue, HasEndedSince, AsksOn, ◌⊎◌, ⊎_elim, inl, inr}
 use Rattle.std.specs.Prelude.{◌%◌, ◌==◌, slice_set}
 use Rattle.gateway_loop.proofs.AskLemmas.{shown_at}
 use Rattle.gateway_loop.proofs.Places.{changed_none}
@@ -16,6 +16,36 @@ tells_no_moment (r ∷ rs) w = tells_no_moment rs (tell r w) ∙ told_in (r.toke
 -- a moment was told since then
 pub ticked_since : (u v w : WholeLoop) → v.side.told ≡ u.side.told → HasTicked v.side w.side → HasTicked u.side w.side
 ticked_since u v w same t = (t.0, t.1, t.2 ∙ ap (λ (l : List ℕ). l ++ t.0 ∷ t.1) same)
+
+-- it counts for nothing which streams wait to be closed
+tell_beside_in : (b : Bool) (r : Ready) (w : WholeLoop) (closing : List ClosedValue) → tell_in b r (record w { closing = closing }) ≡ record (tell_in b r w) { closing = closing }
+tell_beside_in true r w closing = refl
+tell_beside_in false r w closing = refl
+
+pub tell_beside : (r : Ready) (w : WholeLoop) (closing : List ClosedValue) → tell r (record w { closing = closing }) ≡ record (tell r w) { closing = closing }
+tell_beside r w closing = tell_beside_in (r.token % 2 == 0) r w closing
+
+-- the report was told behind others that were closed
+tell_closing_in : (b : Bool) (r : Ready) (w : WholeLoop) → (tell_in b r w).closing ≡ w.closing
+tell_closing_in true r w = refl
+tell_closing_in false r w = refl
+
+pub told_beside : (r : Ready) (u v w : WholeLoop) → v ≡ record u { closing = v.closing } → w ≡ tell r v → w ≡ record (tell r u) { closing = w.closing }
+told_beside r u v w rest told =
+    told ∙ ap (tell r) rest ∙ tell_beside r u v.closing
+    ∙ ap (λ (c : List ClosedValue). record (tell r u) { closing = c }) (sym (ap (λ (x : WholeLoop). x.closing) told ∙ tell_closing_in (r.token % 2 == 0) r v))
+
+pub continues_beside : (v w : WholeLoop) (closing : List ClosedValue) → ContinuesLoop (record v { closing = closing }) w → ContinuesLoop v w
+continues_beside v w closing c = record { framing = c.framing; side = c.side; asking = λ i x is. since i x (c.asking i x is); ended = c.ended }
+  where
+    since : (i : ℕ) (x : AskingValue) → (y : AskingValue) × ((asked_at i w.asking ≡ Some y) ⊎ HasEndedSince (record v { closing = closing }) w y) × AsksOn x y
+        → (y : AskingValue) × ((asked_at i w.asking ≡ Some y) ⊎ HasEndedSince v w y) × AsksOn x y
+    since i x (y, there, on) = (
+      y,
+      ⊎_elim (λ (here : asked_at i w.asking ≡ Some y). inl here)
+          (λ (e : HasEndedSince (record v { closing = closing }) w y). inr record { before = e.before; outcome = e.outcome; after = e.after; ended_are = e.ended_are }) there,
+      on,
+    )
 
 -- one more was told
 pub tell_more : (rs : List Ready) (r : Ready) (w : WholeLoop) → tell_all (rs ++ r ∷ []) w ≡ tell r (tell_all rs w)

@@ -1,20 +1,24 @@
 -- A client of a loop, and what its steps make of the history that the core stands for.
-use Rattle.std.specs.Prelude.{◌≡◌, ℕ, ◌<◌, Bool, true, false, ◌==◌, ◌||◌, All, List, [], ◌++◌, map, reverse, Option, Some}
-use Rattle.std.specs.List.{AllZip}
+use Rattle.std.specs.Prelude.{◌≡◌, ◌⊎◌, ℕ, ◌+◌, ◌<◌, Bool, true, false, ◌==◌, List, [], ◌∷◌, ◌++◌, map, reverse, Option, None, Some}
+use Rattle.std.specs.declared.net.socket_addr.SocketAddr.{SocketAddr}
 use Rattle.call_plan.specs.Plan.{PlanRecord}
 use Rattle.connect_codec.specs.declared.answer.Outcome.{Outcome}
 use Rattle.gateway_model.specs.Events.{Occurs, connections, hung_up, is_open, stream}
 use Rattle.gateway_model.specs.History.{History}
 use Rattle.gateway_model.specs.Past.{Past, marked}
-use Rattle.gateway_model.specs.Run.{bytes_of}
 use Rattle.gateway_model.specs.Starts.{Placed, occurrences}
 use Rattle.gateway_theory.specs.Values.{GatewayValue}
 use Rattle.gateway_theory.specs.Served.{Served}
 use Rattle.gateway_theory.specs.Task.{HandedJob}
-use Rattle.loop_model.specs.Clients.{ClientValue, IsExplainedClient}
-use Rattle.loop_model.specs.Explained.{LoopValue, at, count_of, one_below}
+use Rattle.loop_model.specs.Accounts.{NetworkValue, closed_client}
+use Rattle.loop_model.specs.Clients.{ClientValue}
+use Rattle.loop_model.specs.Explained.{LoopValue}
+use Rattle.loop_model.specs.Histories.{Extends}
+use Rattle.loop_model.specs.Holding.{Fits, Holds}
+use Rattle.loop_model.specs.Standing.{count_clients}
+use Rattle.loop_model.specs.Streams.{ClosedValue}
 use Rattle.loop_model.specs.Growing.{Continues}
-use Rattle.loop_model.specs.Handed.{HandsIn, IsResultOf, has_drained, latest, moments, results}
+use Rattle.loop_model.specs.Handed.{has_drained, latest, moments, results}
 
 -- its connection was closed, and it lingers until then at most
 abbrev pub lingering : ℕ → ClientValue → ClientValue
@@ -24,32 +28,12 @@ lingering until x = record x { lingers = true; until = Some until }
 abbrev pub watched_by : Option (ℕ × Bool) → ClientValue → ClientValue
 watched_by watched x = record x { watched = watched }
 
--- nothing was read or written yet
-pub record IsFresh (given got : List ℕ) (ended : Bool) : Type 0 where
+-- it was accepted, and nothing was read or written yet
+pub record IsFresh (peer : Option SocketAddr) (given got : List ℕ) (ended : Bool) : Type 0 where
+  pub accepted : peer ≡ None
   pub given_none : given ≡ []
   pub got_none : got ≡ []
   pub goes_on : ended ≡ false
-
--- ---- one client
-
--- one whose connection is open: what was read is its stream, it hung up if a read found the end, and what was written and waits was taken
--- of its queue
-pub record Stands (plans : List PlanRecord) (h : History) (x : ClientValue) : Type 0 where
-  pub known : x.conn < connections h.opened h.events
-  pub still_open : is_open h.opened x.conn h.events ≡ true
-  pub read : x.given ≡ stream h.opened x.conn h.events
-  pub hangs_up : hung_up h.opened x.conn h.events ≡ x.ended
-  pub written : (occurred : List Placed) → Occurs plans h.opened h.events occurred → x.got ++ x.waiting ≡ bytes_of (h.taken x.conn)
-
--- one whose connection was closed
-pub record HasStood (plans : List PlanRecord) (h : History) (x : ClientValue) : Type 0 where
-  pub explained : IsExplainedClient plans h x
-  pub closed : is_open h.opened x.conn h.events ≡ false
-
--- one that is there
-pub record Fits (plans : List PlanRecord) (h : History) (x : ClientValue) : Type 0 where
-  pub stands : x.lingers ≡ false → Stands plans h x
-  pub stood : x.lingers ≡ true → HasStood plans h x
 
 -- ---- steps
 
@@ -97,6 +81,7 @@ pub record Steps (plans : List PlanRecord) (w : GatewayValue) (x y : ClientValue
   pub leads : Leads plans (λ c. c == x.conn) h later
   pub quiet : IsQuiet h later
   pub opens : OpensNone h later
+  pub extends : Extends h later
 
 pub record MakesSteps (v w : GatewayValue) (x y : ClientValue) : Type 0 where
   pub conn : y.conn ≡ x.conn
@@ -110,54 +95,79 @@ pub record FitsOn (x y : ClientValue) : Type 0 where
 
 -- ---- the loop
 
-abbrev pub loop_value : GatewayValue → List (Option ClientValue) → List (ClientValue × Bool) → List (ℕ × Bool) → List (HandedJob × Option Outcome)
+abbrev pub loop_value : GatewayValue → List (Option ClientValue) → List (ClientValue × Bool) → List ClosedValue → List (ℕ × Bool) → List (HandedJob × Option Outcome)
     → List (HandedJob × Bool) → Bool → LoopValue
-loop_value v clients gone told results handed drained = record {
+loop_value v clients gone unserved told results handed drained = record {
   core = v;
   clients = clients;
   gone = map (λ g. g.0) gone;
+  unserved = unserved;
   told = map (λ t. t.0) told;
   results = map (λ r. (r.0.job, r.1)) results;
   handed = map (λ j. j.0.job) handed;
   drained = drained;
 }
 
--- the history explains all of this but its clients, if this is what those ended with for whose outcome there was no memory
-pub record HoldsRest (unknown : Outcome) (h : History) (moment : ℕ) (l : LoopValue) : Type 0 where
-  pub latest_is : moment ≡ latest (moments h.events)
-  pub told : HandsIn (reverse l.told) (moments h.events)
-  pub results : AllZip (IsResultOf unknown) (results h.events) l.results
-  pub handed : h.handed ≡ l.handed
-  pub drained : has_drained h.events ≡ l.drained
-
--- .. and its clients
-pub record IsHeld (unknown : Outcome) (plans : List PlanRecord) (h : History) (moment : ℕ) (l : LoopValue) : Type 0 where
-  pub fits : (i : ℕ) (x : ClientValue) → at i l.clients ≡ Some x → Fits plans h x
-  pub apart : (i j : ℕ) (x y : ClientValue) → at i l.clients ≡ Some x → at j l.clients ≡ Some y → x.conn ≡ y.conn → i ≡ j
-  pub each : (c : ℕ) → count_of c l ≡ one_below c (connections h.opened h.events)
-  pub gone : All (λ (x : ClientValue). HasStood plans h x) l.gone
-  pub rest : HoldsRest unknown h moment l
-
--- the core stands for a history that does
-pub record IsServing (unknown : Outcome) (v : GatewayValue) (moment : ℕ) (l : LoopValue) : Type 0 where
-  pub history : History
-  pub serves : Served v history
-  pub held : IsHeld unknown v.plans history moment l
-
 -- a new loop
 pub record Starts (l : LoopValue) : Type 0 where
   pub none_there : l.clients ≡ []
   pub none_gone : l.gone ≡ []
+  pub none_unserved : l.unserved ≡ []
   pub none_told : l.told ≡ []
   pub no_results : l.results ≡ []
   pub none_handed : l.handed ≡ []
   pub not_drained : l.drained ≡ false
 
--- what the one continues the other does too
+-- what the one continues the other does too, and it is told to drain if it was
 pub record Onward (v w : LoopValue) : Type 0 where
   pub on : (u : LoopValue) → Continues u v → Continues u w
+  pub drained : w.drained ≡ v.drained
+
+-- this is the last moment that was told, and some history holds
+pub record IsServing (moment : ℕ) (l : LoopValue) : Type 0 where
+  pub moment_is : moment ≡ latest (reverse l.told)
+  pub holds : (unknown : Outcome) → (h : History) × Holds unknown h l
 
 -- no result was handed in, and no job was taken
 pub record HandsNothing (v w : LoopValue) : Type 0 where
   pub no_result : w.results ≡ v.results
   pub no_job : w.handed ≡ v.handed
+
+-- no client came or went, and no moment was told
+pub record IsStill (v w : LoopValue) : Type 0 where
+  pub told : w.told ≡ v.told
+  pub gone : w.gone ≡ v.gone
+  pub unserved : w.unserved ≡ v.unserved
+  pub there : count_clients w.clients ≡ count_clients v.clients
+
+-- a client came; or its stream was not taken in, and was closed
+abbrev pub HasCome : NetworkValue → NetworkValue → LoopValue → LoopValue → Type 0
+HasCome a b v w = (b ≡ a) × (w.unserved ≡ v.unserved) × (count_clients w.clients ≡ count_clients v.clients + 1)
+
+abbrev pub IsTurnedAway : NetworkValue → NetworkValue → LoopValue → LoopValue → Type 0
+IsTurnedAway a b v w =
+    (s : ClosedValue) × (b ≡ record a { closed = a.closed ++ s ∷ [] }) × (w.unserved ≡ v.unserved ++ s ∷ []) × (count_clients w.clients ≡ count_clients v.clients)
+
+pub record TakesIn (a b : NetworkValue) (v w : LoopValue) : Type 0 where
+  pub told : w.told ≡ v.told
+  pub gone : w.gone ≡ v.gone
+  pub one : HasCome a b v w ⊎ IsTurnedAway a b v w
+
+-- a client has gone, whose stream was closed; or nobody was there
+abbrev pub HasGone : NetworkValue → NetworkValue → LoopValue → LoopValue → Type 0
+HasGone a b v w =
+    (x : ClientValue) × (b ≡ record a { closed = a.closed ++ closed_client x ∷ [] }) × (w.gone ≡ v.gone ++ x ∷ []) × (count_clients v.clients ≡ count_clients w.clients + 1)
+
+pub record LetsGo (a b : NetworkValue) (v w : LoopValue) : Type 0 where
+  pub told : w.told ≡ v.told
+  pub unserved : w.unserved ≡ v.unserved
+  pub one : ((b ≡ a) × (w.gone ≡ v.gone) × (count_clients w.clients ≡ count_clients v.clients)) ⊎ HasGone a b v w
+
+-- a moment was told
+pub record IsTold (a b : NetworkValue) (v w : LoopValue) : Type 0 where
+  pub moment : ℕ
+  pub net : b ≡ record a { told = a.told ++ moment ∷ [] }
+  pub told : w.told ≡ v.told ++ moment ∷ []
+  pub gone : w.gone ≡ v.gone
+  pub unserved : w.unserved ≡ v.unserved
+  pub there : w.clients ≡ v.clients

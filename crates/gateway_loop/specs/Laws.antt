@@ -13,7 +13,7 @@ use Rattle.std.specs.Prelude.{List}
 
 pub record LoopLaws : Type 0 where
   pub known : (v : GatewayValue) (h : History) (occurred : List Placed) → Served v h → Occurs v.plans h.opened h.events occurred
-      → IsKnown (shown v) h (occurrences occurred)
+      → IsKnown (shown v) h occurred
   -- what was taken of an open connection begins what is queued for it
   pub entries : (v : GatewayValue) (h : History) (occurred : List Placed) → Served v h → Occurs v.plans h.opened h.events occurred
       → (c : ℕ) → is_open h.opened c h.events ≡ true → IsPrefixOf (h.taken c) (queued_entries c (marked (occurrences occurred)))

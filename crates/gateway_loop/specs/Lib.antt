@@ -1,5 +1,6 @@
 pub mod Laws
 pub mod Clients
+pub mod Closing
 pub mod Hints
 pub mod Loop
 pub mod NextTurns

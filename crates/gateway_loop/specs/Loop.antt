@@ -2,18 +2,21 @@
 use Rattle.std.specs.Prelude.{◌≡◌, ℕ, false, List, [], map, slice_index_or, Option, None, Some, option_map}
 use Rattle.connect_codec.specs.declared.answer.Outcome.{Outcome}
 use Rattle.http_pieces.specs.declared.framing.Framing.{Framing}
+use Rattle.loop_model.specs.Accounts.{Account, AccountsFor, AccountsOn, NetworkValue}
 use Rattle.loop_model.specs.Asking.{ended_value}
+use Rattle.loop_model.specs.Streams.{ClosedValue}
 use Rattle.loop_model.specs.Explained.{LoopValue}
 use Rattle.loop_model.specs.Whole.{ContinuesLoop, WholeLoop}
 use Rattle.branch_asking.specs.Asking.{AskingState, asked_for}
 use Rattle.gateway_loop.specs.Clients.{Starts}
 
-abbrev pub whole_loop : Framing → LoopValue → List (Option AskingState) → List (AskingState × Option Outcome) → WholeLoop
-whole_loop framing side asking ended = record {
+abbrev pub whole_loop : Framing → LoopValue → List (Option AskingState) → List (AskingState × Option Outcome) → List ClosedValue → WholeLoop
+whole_loop framing side asking ended closing = record {
   framing = framing;
   side = side;
   asking = map (λ (o : Option AskingState). option_map asked_for o) asking;
   ended = map (λ (e : AskingState × Option Outcome). ended_value (asked_for e.0) e.1) ended;
+  closing = closing;
 }
 
 -- the reply to it may be framed so, and nothing was written to a stream that has not taken a byte
@@ -29,7 +32,20 @@ pub record StartsLoop (w : WholeLoop) : Type 0 where
   pub side : Starts w.side
   pub none_asked : w.asking ≡ []
   pub none_ended : w.ended ≡ []
+  pub none_closing : w.closing ≡ []
 
--- what the one continues the other does too
-pub record Goes (v w : WholeLoop) : Type 0 where
+-- What the one continues the other does too; what the network did between is accounted for; and it is told to drain if it was.
+pub record Goes (a b : NetworkValue) (v w : WholeLoop) : Type 0 where
   pub on : (u : WholeLoop) → ContinuesLoop u v → ContinuesLoop u w
+  pub accounts : (u : Account) → AccountsFor u a v → AccountsFor u b w
+  pub drained : w.side.drained ≡ v.side.drained
+
+-- .. where the network did nothing
+abbrev pub GoesAlone : WholeLoop → WholeLoop → Type 0
+GoesAlone v w = (a : NetworkValue) → Goes a a v w
+
+-- .. where so many streams were dealt
+pub record Admits (dealt : ℕ) (a b : NetworkValue) (v w : WholeLoop) : Type 0 where
+  pub on : (u : WholeLoop) → ContinuesLoop u v → ContinuesLoop u w
+  pub accounts : AccountsOn dealt a b v w
+  pub drained : w.side.drained ≡ v.side.drained

@@ -1,8 +1,10 @@
 ghost use Rattle.std.specs.Prelude.{◌≡◌, ◌||◌, false, [], ℕ, List, None};
 ghost use Rattle.std.specs.Borrow.{sem};
+ghost use Rattle.loop_model.specs.Accounts.{closed_client};
 ghost use Rattle.loop_model.specs.Clients.{client_value};
 ghost use Rattle.loop_model.specs.Growing.{Grows};
 ghost use Rattle.loop_model.specs.Reports.{told_client};
+ghost use Rattle.loop_model.specs.Streams.{closed_value};
 ghost use Rattle.gateway_loop.specs.Clients.{FitsOn, MakesSteps, lingering, watched_by};
 ghost use Rattle.gateway_model.specs.declared.event.Event.TheVariants.{HangUp, Piece};
 ghost use Rattle.gateway_loop.specs.Rests.{is_watched, is_written, rests_client, waits_client};
@@ -37,14 +39,14 @@ pub(crate) struct Client<W: Wire> {
 }
 
 impl<W: Wire> Model for Client<W> {
-    ghost use Rattle.std.specs.Prelude.{◌≡◌};
+    ghost use Rattle.std.specs.Prelude.{◌≡◌, None};
     ghost use Rattle.loop_model.specs.Clients.{ClientValue, client_value};
 
     ghost Value = { ClientValue };
 
     ghost view = { λ c. client_value c.conn c.lingers (W.given c.wire) (W.got c.wire) (W.ended c.wire) c.outbox (W.reads c.wire) (W.writes c.wire) (W.watched c.wire) (W.reported c.wire) c.until };
 
-    ghost invariant = { λ c. W.ended c.wire ≡ c.has_ended };
+    ghost invariant = { λ c. (W.ended c.wire ≡ c.has_ended) × (W.peer c.wire ≡ None) };
 }
 
 /// What reading a client's stream came to.
@@ -78,7 +80,8 @@ impl<W: Wire> Client<W> {
 
     /// The client of a new connection.
     pub(crate) fn new(alloc: Global, wire: W, conn: ConnId) -> Client<W>
-        requires { W.ended wire ≡ false }
+        requires ended { W.ended wire ≡ false }
+        requires peer { W.peer wire ≡ None }
         ensures { result ≡ client_value conn false (W.given wire) (W.got wire) (W.ended wire) [] (W.reads wire) (W.writes wire) (W.watched wire) (W.reported wire) None }
     {
         Client {
@@ -113,7 +116,7 @@ impl<W: Wire> Client<W> {
     /// Watches its stream by that token. False where it can't.
     pub(crate) fn watch<N: Network<W>>(&mut self, net: &mut N, token: usize) -> bool
         ensures same { self.new ≡ watched_by self.new.watched self.old }
-        ensures told { N.told net.new ≡ N.told net.old }
+        ensures net { N.value net.new ≡ N.value net.old }
     {
         net.watch(&mut self.wire, token, true)
     }
@@ -123,6 +126,13 @@ impl<W: Wire> Client<W> {
         ensures { self.new ≡ told_client ready self.old }
     {
         self.wire.report(ready);
+    }
+
+    /// Its stream, which is left.
+    pub(crate) fn into_wire(self) -> W
+        ensures { closed_value (W.peer result) (W.given result) (W.got result) ≡ closed_client self }
+    {
+        self.wire
     }
 
     /// Its connection.
@@ -256,7 +266,7 @@ impl<W: Wire> Client<W> {
     ) -> Written
         ensures steps { MakesSteps core.old core.new self.old self.new }
         ensures grows { Grows self.old self.new }
-        ensures told { N.told net.new ≡ N.told net.old }
+        ensures net { N.value net.new ≡ N.value net.old }
     {
         for _write in 0..MOST_WRITES {
             self.fill(core);
@@ -287,7 +297,7 @@ impl<W: Wire> Client<W> {
     fn send<N: Network<W>>(&mut self, net: &mut N) -> Option<Written>
         ensures fits { FitsOn self.old self.new }
         ensures grows { Grows self.old self.new }
-        ensures told { N.told net.new ≡ N.told net.old }
+        ensures net { N.value net.new ≡ N.value net.old }
     {
         if self.outbox.is_empty() {
             return Some(Written::All);
@@ -315,7 +325,7 @@ impl<W: Wire> Client<W> {
     /// Tells the reply that was being written.
     fn tell<N: Network<W>>(&mut self, net: &mut N)
         ensures same { self.new ≡ self.old }
-        ensures told { N.told net.new ≡ N.told net.old }
+        ensures net { N.value net.new ≡ N.value net.old }
     {
         let writing = self.writing.take();
         if let Some((id, entry, label)) = writing {

@@ -1,10 +1,11 @@
-ghost use Rattle.std.specs.Prelude.{◌≡◌, ◌++◌, ◌∷◌, [], ℕ, List, IfOk, IsTrue, option_map, option_to_list};
-ghost use Rattle.gateway_loop.specs.Clients.{HandsNothing, Onward, Starts};
+ghost use Rattle.std.specs.Prelude.{◌≡◌, ◌++◌, ◌∷◌, [], ℕ, List, IfOk, IsTrue, option_map, option_to_list, true};
+ghost use Rattle.connect_codec.specs.declared.answer.Outcome.{Outcome};
+ghost use Rattle.gateway_loop.specs.Clients.{HandsNothing, IsFresh, IsStill, IsTold, LetsGo, Onward, Starts, TakesIn};
 ghost use Rattle.gateway_model.specs.History.{no_history};
-ghost use Rattle.gateway_theory.specs.Served.{Served};
 ghost use Rattle.gateway_loop.specs.Rests.{AllRest};
-ghost use Rattle.loop_model.specs.Explained.{IsExplained, draining};
-ghost use Rattle.loop_model.specs.Growing.{HasTicked, Tells};
+ghost use Rattle.loop_model.specs.Growing.{Continues};
+ghost use Rattle.loop_model.specs.Histories.{IsExplained};
+ghost use Rattle.loop_model.specs.Holding.{Holds};
 ghost use Rattle.loop_model.specs.Reports.{changed_at, told_client};
 ghost use Rattle.loop_model.specs.Standing.{count_clients, count_lingering};
 
@@ -34,9 +35,10 @@ pub(crate) struct Clients<H, W: Wire> {
     places: usize,
     // the last moment that was handed in
     moment: u64,
-    // for proofs: the clients that have gone, the moments that were told, the results that were handed in, and the
-    // jobs that were taken
+    // for proofs: the clients that have gone, the streams that were not taken in, the moments that were told, the
+    // results that were handed in, and the jobs that were taken
     gone: Log<Client<W>, bool>,
+    unserved: Log<W, bool>,
     told: Log<u64, bool>,
     results: Log<Job, Option<Outcome>>,
     handed: Log<Job, bool>,
@@ -45,16 +47,18 @@ pub(crate) struct Clients<H, W: Wire> {
 }
 
 impl<H, W: Wire> Model for Clients<H, W> {
-    ghost use Rattle.connect_codec.specs.declared.answer.Outcome.{Outcome};
+    ghost use Rattle.std.specs.Prelude.{map};
     ghost use Rattle.loop_model.specs.Explained.{LoopValue};
+    ghost use Rattle.loop_model.specs.Streams.{closed_value};
     ghost use Rattle.gateway_loop.specs.Clients.{IsServing, loop_value};
 
     ghost Value = { LoopValue };
 
-    ghost view = { λ l. loop_value l.core l.clients.slots l.gone.items l.told.items l.results.items l.handed.items l.drained };
+    ghost view = { λ l. loop_value l.core l.clients.slots l.gone.items
+        (map (λ u. closed_value (W.peer u.0) (W.given u.0) (W.got u.0)) l.unserved.items) l.told.items l.results.items l.handed.items l.drained };
 
-    ghost invariant = { λ l. (unknown : Outcome)
-        → IsServing unknown l.core l.moment (loop_value l.core l.clients.slots l.gone.items l.told.items l.results.items l.handed.items l.drained) };
+    ghost invariant = { λ l. IsServing l.moment (loop_value l.core l.clients.slots l.gone.items
+        (map (λ u. closed_value (W.peer u.0) (W.given u.0) (W.got u.0)) l.unserved.items) l.told.items l.results.items l.handed.items l.drained) };
 }
 
 impl<H: ReplyHook + Drop, W: Wire + Drop> Clients<H, W> {
@@ -62,7 +66,7 @@ impl<H: ReplyHook + Drop, W: Wire + Drop> Clients<H, W> {
     pub(crate) fn new(alloc: Global, plans: Plans) -> Result<Clients<H, W>, AllocError>
         ensures plans { IfOk result (λ l. l.core.plans ≡ plans) }
         ensures starts { IfOk result Starts }
-        ensures serves { IfOk result (λ l. Served l.core no_history) }
+        ensures serves { IfOk result (λ l. (unknown : Outcome) → Holds unknown no_history l) }
     {
         Ok(Clients {
             alloc,
@@ -71,6 +75,7 @@ impl<H: ReplyHook + Drop, W: Wire + Drop> Clients<H, W> {
             places: 0,
             moment: 0,
             gone: Log::new(),
+            unserved: Log::new(),
             told: Log::new(),
             results: Log::new(),
             handed: Log::new(),
@@ -80,15 +85,19 @@ impl<H: ReplyHook + Drop, W: Wire + Drop> Clients<H, W> {
 
     /// Opens a connection for the stream: the place of its client. Where none can be opened, the stream is closed
     /// without a byte.
-    pub(crate) fn open(&mut self, dealt: Dealt<H, W>) -> Option<usize>
+    pub(crate) fn open<N: Network<W>>(&mut self, net: &mut N, dealt: Dealt<H, W>) -> Option<usize>
         ensures goes { Onward self.old self.new }
-        ensures told { self.new.told ≡ self.old.told }
+        ensures takes { TakesIn (N.value net.old) (N.value net.new) self.old self.new }
         ensures hands { HandsNothing self.old self.new }
     {
         loop_laws();
-        self.clients.reserve(1).ok()?;
         let (wire, stock) = dealt.into_parts();
+        if self.clients.reserve(1).is_err() {
+            self.turn_away(net, wire);
+            return None;
+        }
         let Ok(conn) = self.core.open_conn(stock) else {
+            self.turn_away(net, wire);
             return None;
         };
         let place = self
@@ -98,10 +107,22 @@ impl<H: ReplyHook + Drop, W: Wire + Drop> Clients<H, W> {
         Some(place)
     }
 
+    /// Closes a stream that is not taken in.
+    fn turn_away<N: Network<W>>(&mut self, net: &mut N, wire: W)
+        requires { IsFresh (W.peer wire) (W.given wire) (W.got wire) (W.ended wire) }
+        ensures goes { Onward self.old self.new }
+        ensures takes { TakesIn (N.value net.old) (N.value net.new) self.old self.new }
+        ensures hands { HandsNothing self.old self.new }
+    {
+        loop_laws();
+        self.unserved = self.unserved.and(&wire, &true);
+        net.close(wire);
+    }
+
     /// Reads the stream of the client in that place once, and hands on what came; of one that lingers it is dropped.
     pub(crate) fn read(&mut self, place: usize) -> Heard
         ensures goes { Onward self.old self.new }
-        ensures told { self.new.told ≡ self.old.told }
+        ensures still { IsStill self.old self.new }
         ensures hands { HandsNothing self.old self.new }
     {
         loop_laws();
@@ -116,8 +137,8 @@ impl<H: ReplyHook + Drop, W: Wire + Drop> Clients<H, W> {
     /// Writes what can be written of the replies that are there to the client in that place.
     pub(crate) fn write<N: Network<W>>(&mut self, net: &mut N, place: usize) -> Written
         ensures goes { Onward self.old self.new }
-        ensures told { self.new.told ≡ self.old.told }
-        ensures same { N.told net.new ≡ N.told net.old }
+        ensures still { IsStill self.old self.new }
+        ensures net { N.value net.new ≡ N.value net.old }
         ensures hands { HandsNothing self.old self.new }
     {
         loop_laws();
@@ -133,7 +154,7 @@ impl<H: ReplyHook + Drop, W: Wire + Drop> Clients<H, W> {
     /// comes is dropped.
     pub(crate) fn leave(&mut self, place: usize, until: u64)
         ensures goes { Onward self.old self.new }
-        ensures told { self.new.told ≡ self.old.told }
+        ensures still { IsStill self.old self.new }
         ensures hands { HandsNothing self.old self.new }
     {
         loop_laws();
@@ -146,9 +167,9 @@ impl<H: ReplyHook + Drop, W: Wire + Drop> Clients<H, W> {
     }
 
     /// Closes the stream of the client in that place, and its connection.
-    pub(crate) fn let_go(&mut self, place: usize)
+    pub(crate) fn let_go<N: Network<W>>(&mut self, net: &mut N, place: usize)
         ensures goes { Onward self.old self.new }
-        ensures told { self.new.told ≡ self.old.told }
+        ensures leaves { LetsGo (N.value net.old) (N.value net.new) self.old self.new }
         ensures hands { HandsNothing self.old self.new }
     {
         loop_laws();
@@ -157,14 +178,14 @@ impl<H: ReplyHook + Drop, W: Wire + Drop> Clients<H, W> {
         };
         self.core.close(client.conn());
         self.gone = self.gone.and(&client, &true);
+        net.close(client.into_wire());
     }
 
     /// Hands in the present moment, unless that would change nothing. Answers whether something may have come of it
     /// for any client.
     pub(crate) fn tick<N: Network<W>>(&mut self, net: &mut N) -> bool
         ensures goes { Onward self.old self.new }
-        ensures ticks { HasTicked self.old self.new }
-        ensures told { Tells (N.told net.old) (N.told net.new) self.old self.new }
+        ensures told { IsTold (N.value net.old) (N.value net.new) self.old self.new }
         ensures hands { HandsNothing self.old self.new }
     {
         loop_laws();
@@ -181,8 +202,9 @@ impl<H: ReplyHook + Drop, W: Wire + Drop> Clients<H, W> {
 
     /// The drain begins: calls that are undecided end, and those that come are refused.
     pub(crate) fn drain(&mut self)
-        ensures goes { Onward (draining self.old) self.new }
-        ensures told { self.new.told ≡ self.old.told }
+        ensures continues { Continues self.old self.new }
+        ensures drained { self.new.drained ≡ true }
+        ensures still { IsStill self.old self.new }
         ensures hands { HandsNothing self.old self.new }
     {
         loop_laws();
@@ -193,7 +215,7 @@ impl<H: ReplyHook + Drop, W: Wire + Drop> Clients<H, W> {
     /// The next job, if one waits.
     pub(crate) fn take_job(&mut self) -> Option<Job>
         ensures goes { Onward self.old self.new }
-        ensures told { self.new.told ≡ self.old.told }
+        ensures still { IsStill self.old self.new }
         ensures handed { self.new.handed ≡ self.old.handed ++ option_to_list (option_map (λ j. j.job) result) }
         ensures results { self.new.results ≡ self.old.results }
     {
@@ -206,7 +228,7 @@ impl<H: ReplyHook + Drop, W: Wire + Drop> Clients<H, W> {
     /// Records what came of the job; None for want of memory.
     pub(crate) fn record(&mut self, job: &Job, outcome: Option<Outcome>)
         ensures goes { Onward self.old self.new }
-        ensures told { self.new.told ≡ self.old.told }
+        ensures still { IsStill self.old self.new }
         ensures results { self.new.results ≡ self.old.results ++ (job.now.job, outcome) ∷ [] }
         ensures handed { self.new.handed ≡ self.old.handed }
     {
@@ -254,8 +276,8 @@ impl<H: ReplyHook + Drop, W: Wire + Drop> Clients<H, W> {
     /// Watches the stream of the client in that place. False where it can't be.
     pub(crate) fn watch<N: Network<W>>(&mut self, net: &mut N, place: usize) -> bool
         ensures goes { Onward self.old self.new }
-        ensures told { self.new.told ≡ self.old.told }
-        ensures same { N.told net.new ≡ N.told net.old }
+        ensures still { IsStill self.old self.new }
+        ensures net { N.value net.new ≡ N.value net.old }
         ensures hands { HandsNothing self.old self.new }
     {
         loop_laws();
@@ -269,7 +291,7 @@ impl<H: ReplyHook + Drop, W: Wire + Drop> Clients<H, W> {
 
     /// Tells that the connection of the client in that place broke, if it did.
     pub(crate) fn tell_broken<N: Network<W>>(&self, net: &mut N, place: usize)
-        ensures { N.told net.new ≡ N.told net.old }
+        ensures { N.value net.new ≡ N.value net.old }
     {
         let Some(client) = self.clients.get(place) else {
             return;
@@ -382,6 +404,7 @@ impl<H: ReplyHook + Drop, W: Wire + Drop> Clients<H, W> {
     pub(crate) fn note_ready(&mut self, place: usize, ready: Ready)
         ensures exact { self.new ≡ record self.old { clients = changed_at (told_client ready) place self.old.clients } }
         ensures goes { Onward self.old self.new }
+        ensures still { IsStill self.old self.new }
     {
         loop_laws();
         if let Some(client) = self.clients.get_mut(place) {

@@ -1,28 +1,60 @@
+ghost use Rattle.std.specs.Prelude.{map, option_to_list, ◌≡◌, ◌∷◌, ◌++◌};
+ghost use Rattle.gateway_loop.specs.Closing.{ClosesFrom, IsNone};
+ghost use Rattle.loop_model.specs.Streams.{closed_value};
+
 use crate::limits::MOST_CLOSING;
+use branch_asking::Network;
 use std::alloc::{AllocError, Global};
 use std::collections::VecDeque;
-use wires::Ready;
+use std::marker::Model;
+use wires::{Ready, Wire};
 
 /// Streams to backends whose replies came whole. Each waits for its backend's end for a while, and is closed then: so
-/// the port waits for stray packets on the side of the backend, which has closed first (TIME_WAIT of RFC 9293). No law
-/// speaks of it.
+/// the port waits for stray packets on the side of the backend, which has closed first (TIME_WAIT of RFC 9293).
 #[derive(Drop)]
-pub(crate) struct ClosingStreams<W> {
+pub(crate) struct ClosingStreams<W: Wire> {
     // the oldest first: each has the same time
     waiting: VecDeque<ClosingStream<W>>,
 }
 
+impl<W: Wire> Model for ClosingStreams<W> {
+    ghost use Rattle.std.specs.Prelude.{List};
+    ghost use Rattle.loop_model.specs.Streams.{ClosedValue};
+
+    ghost Value = { List ClosedValue };
+
+    ghost view = { λ c. c.waiting.items };
+}
+
 /// A stream that waits for its backend's end, until that moment at most. It was watched by that token.
 #[derive(Drop)]
-struct ClosingStream<W> {
+struct ClosingStream<W: Wire> {
     stream: W,
     token: usize,
     until: u64,
 }
 
-impl<W> ClosingStreams<W> {
+impl<W: Wire> Model for ClosingStream<W> {
+    ghost use Rattle.loop_model.specs.Streams.{ClosedValue, closed_value};
+
+    ghost Value = { ClosedValue };
+
+    ghost view = { λ s. closed_value (W.peer s.stream) (W.given s.stream) (W.got s.stream) };
+}
+
+impl<W: Wire> ClosingStream<W> {
+    fn into_wire(self) -> W
+        ensures { closed_value (W.peer result) (W.given result) (W.got result) ≡ self }
+    {
+        self.stream
+    }
+}
+
+impl<W: Wire> ClosingStreams<W> {
     /// None yet, and room for as many as may be.
-    pub(crate) fn new(alloc: Global) -> Result<ClosingStreams<W>, AllocError> {
+    pub(crate) fn new(alloc: Global) -> Result<ClosingStreams<W>, AllocError>
+        ensures { IsNone result }
+    {
         Ok(ClosingStreams {
             waiting: VecDeque::with_capacity(alloc, MOST_CLOSING)?,
         })
@@ -34,26 +66,61 @@ impl<W> ClosingStreams<W> {
     }
 }
 
-impl<W: Drop> ClosingStreams<W> {
-    /// The stream, if there is one, waits until then. It is watched by that token. Where too many wait, the oldest is
-    /// closed.
-    pub(crate) fn keep(&mut self, stream: Option<W>, token: usize, until: u64) {
-        let Some(stream) = stream else {
-            return;
-        };
+impl<W: Wire + Drop> ClosingStreams<W> {
+    /// The stream waits until then. It is watched by that token. Where too many wait, the oldest is closed; where there
+    /// is no memory, this one is.
+    fn keep<N: Network<W>>(&mut self, net: &mut N, stream: W, token: usize, until: u64)
+        ensures { ClosesFrom (N.value net.old) (N.value net.new)
+            (closed_value (W.peer stream) (W.given stream) (W.got stream) ∷ self.old) self.new }
+    {
         if self.waiting.len() >= MOST_CLOSING {
-            let _oldest = self.waiting.pop_front();
+            self.close_first(net);
         }
-        // there is room
-        let _ = self.waiting.push_back(ClosingStream {
+        let kept = self.waiting.push_back(ClosingStream {
             stream,
             token,
             until,
         });
+        if let Err(failed) = kept {
+            net.close(failed.value.into_wire());
+        }
+    }
+
+    /// A stream is left, if there was one. It waits until then, if it is to, and else it is closed.
+    pub(crate) fn put<N: Network<W>>(
+        &mut self,
+        net: &mut N,
+        stream: Option<W>,
+        waits: bool,
+        token: usize,
+        until: u64,
+    )
+        ensures { ClosesFrom (N.value net.old) (N.value net.new)
+            (map (λ w. closed_value (W.peer w) (W.given w) (W.got w)) (option_to_list stream) ++ self.old) self.new }
+    {
+        let Some(stream) = stream else {
+            return;
+        };
+        if waits {
+            self.keep(net, stream, token, until);
+        } else {
+            net.close(stream);
+        }
+    }
+
+    /// Closes the first of them, if there is one.
+    fn close_first<N: Network<W>>(&mut self, net: &mut N)
+        ensures { ClosesFrom (N.value net.old) (N.value net.new) self.old self.new }
+    {
+        if let Some(first) = self.waiting.pop_front() {
+            net.close(first.into_wire());
+        }
     }
 
     /// Notes that a stream of that token was ended, if it was: one that waits is closed. Answers whether one did.
-    pub(crate) fn note_ready(&mut self, ready: Ready) -> bool {
+    pub(crate) fn note_ready<N: Network<W>>(&mut self, net: &mut N, ready: Ready) -> bool
+        ensures { ClosesFrom (N.value net.old) (N.value net.new) self.old self.new }
+    {
         if !ready.read_closed {
             return false;
         }
@@ -61,17 +128,22 @@ impl<W: Drop> ClosingStreams<W> {
         let Some(index) = waiting.position(|waiting| waiting.token == ready.token) else {
             return false;
         };
-        let _ended = self.waiting.remove(index);
+        let Some(ended) = self.waiting.remove(index) else {
+            return false;
+        };
+        net.close(ended.into_wire());
         true
     }
 
     /// Closes those that have waited long enough at that moment.
-    pub(crate) fn expire(&mut self, moment: u64) {
+    pub(crate) fn expire<N: Network<W>>(&mut self, net: &mut N, moment: u64)
+        ensures { ClosesFrom (N.value net.old) (N.value net.new) self.old self.new }
+    {
         for _stream in 0..self.waiting.len() {
-            let due = self.waiting.pop_front_if(|waiting| waiting.until <= moment);
-            if due.is_none() {
+            if self.next_until().is_none_or(|until| until > moment) {
                 return;
             }
+            self.close_first(net);
         }
     }
 }

@@ -1,4 +1,4 @@
-ghost use Rattle.std.specs.Prelude.{◌≡◌, [], false};
+ghost use Rattle.std.specs.Prelude.{◌≡◌, [], None, false};
 
 use gateway_core::Stock;
 use std::alloc::Global;
@@ -7,7 +7,7 @@ use std::marker::Model;
 use std::net::SocketAddr;
 use wires::{Ready, Wire};
 
-/// A client's stream, of which nothing was read or written yet, and the hooks of its connection.
+/// A client's stream, which was accepted, and of which nothing was read or written yet, and the hooks of its connection.
 #[derive(Drop)]
 pub struct Dealt<H, W: Wire> {
     wire: W,
@@ -15,14 +15,13 @@ pub struct Dealt<H, W: Wire> {
 }
 
 impl<H, W: Wire> Model for Dealt<H, W> {
-    ghost use Rattle.std.specs.Prelude.{◌≡◌, [], false};
     ghost use Rattle.gateway_loop.specs.Clients.{IsFresh};
 
     ghost Value = { Unit {0} };
 
     ghost view = { λ d. tt };
 
-    ghost invariant = { λ d. IsFresh (W.given d.wire) (W.got d.wire) (W.ended d.wire) };
+    ghost invariant = { λ d. IsFresh (W.peer d.wire) (W.given d.wire) (W.got d.wire) (W.ended d.wire) };
 }
 
 impl<H, W: Wire> Dealt<H, W> {
@@ -32,12 +31,13 @@ impl<H, W: Wire> Dealt<H, W> {
         requires given { W.given wire ≡ [] }
         requires got { W.got wire ≡ [] }
         requires ended { W.ended wire ≡ false }
+        requires peer { W.peer wire ≡ None }
     {
         Dealt { wire, stock }
     }
 
     pub(crate) fn into_parts(self) -> (W, Stock<H>)
-        ensures { IsFresh (W.given result.0) (W.got result.0) (W.ended result.0) }
+        ensures { IsFresh (W.peer result.0) (W.given result.0) (W.got result.0) (W.ended result.0) }
     {
         let Dealt { wire, stock } = self;
         (wire, stock)

@@ -44,7 +44,7 @@ impl Ends {
 
     /// Tells what came of branches.
     pub(crate) fn tell<W: Wire, N: Network<W>>(&mut self, net: &mut N)
-        ensures { N.told net.new ≡ N.told net.old }
+        ensures { N.value net.new ≡ N.value net.old }
     {
         for end in self.waiting.drain(..) {
             net.tell_branch(&end);

@@ -1,11 +1,9 @@
 ghost use Rattle.gateway_loop.specs.Loop.{Goes};
-ghost use Rattle.loop_model.specs.Whole.{TellsLoop};
 ghost use Rattle.std.specs.Prelude.{◌≡◌};
 
 use crate::comings::LookedUp;
 use crate::event_loop::EventLoop;
-use crate::limits::{CLOSING, MOST_ADDRESSES, MOST_EXCHANGES};
-use crate::tokens::exchange_token;
+use crate::limits::{MOST_ADDRESSES, MOST_EXCHANGES};
 use branch_asking::{BranchEnd, Network, Progress};
 use branch_exchange::Loss;
 use gateway_core::{CallId, ReplyHook};
@@ -19,8 +17,7 @@ use wires::Wire;
 impl<H: ReplyHook + Drop, W: Wire + Drop> EventLoop<H, W> {
     /// Begins to ask for jobs while there are some, and places for them, and at most for so many. Answers for how many.
     pub(crate) fn start_jobs<N: Network<W>>(&mut self, net: &mut N, most: u32) -> u32
-        ensures goes { Goes self.old self.new }
-        ensures told { TellsLoop (N.told net.old) (N.told net.new) self.old self.new }
+        ensures goes { Goes (N.value net.old) (N.value net.new) self.old self.new }
     {
         for started in 0..most {
             let Some(place) = self.exchanges.begin() else {
@@ -34,8 +31,7 @@ impl<H: ReplyHook + Drop, W: Wire + Drop> EventLoop<H, W> {
     /// Begins the exchange in that place, which is new. One that nobody waits for, or for which there is no memory, is
     /// over at once.
     fn start<N: Network<W>>(&mut self, net: &mut N, place: usize)
-        ensures goes { Goes self.old self.new }
-        ensures told { TellsLoop (N.told net.old) (N.told net.new) self.old self.new }
+        ensures goes { Goes (N.value net.old) (N.value net.new) self.old self.new }
     {
         let is_told = self.unasked.take_first();
         let Some(client) = self.exchanges.client_of(place) else {
@@ -57,18 +53,16 @@ impl<H: ReplyHook + Drop, W: Wire + Drop> EventLoop<H, W> {
     /// The new exchange in that place is lost before anything else knows of it: nobody waits for it any more, and its
     /// backend was never asked. That is told, if it was not yet.
     fn drop_new<N: Network<W>>(&mut self, net: &mut N, place: usize, is_told: bool)
-        ensures goes { Goes self.old self.new }
-        ensures told { TellsLoop (N.told net.old) (N.told net.new) self.old self.new }
+        ensures goes { Goes (N.value net.old) (N.value net.new) self.old self.new }
     {
         self.exchanges.lose(place, Some(Loss::NotWanted));
-        let finished = self.exchanges.finish(place);
+        let finished = self.exchanges.finish(net, place);
         tell_unasked(net, finished.map(|finished| finished.0), is_told);
     }
 
     /// Has the address of the exchange in that place looked up.
     pub(crate) fn look_up<N: Network<W>>(&mut self, net: &mut N, place: usize)
-        ensures goes { Goes self.old self.new }
-        ensures told { TellsLoop (N.told net.old) (N.told net.new) self.old self.new }
+        ensures goes { Goes (N.value net.old) (N.value net.new) self.old self.new }
     {
         let Some(asking) = self.exchanges.asking(place) else {
             return self.lose(net, place, Some(Loss::NoAddress));
@@ -82,8 +76,7 @@ impl<H: ReplyHook + Drop, W: Wire + Drop> EventLoop<H, W> {
 
     /// Takes the names that were looked up.
     pub(crate) fn take_found<N: Network<W>>(&mut self, net: &mut N, found: &mut VecDeque<LookedUp>)
-        ensures goes { Goes self.old self.new }
-        ensures told { TellsLoop (N.told net.old) (N.told net.new) self.old self.new }
+        ensures goes { Goes (N.value net.old) (N.value net.new) self.old self.new }
     {
         for looked_up in found.drain(..) {
             let Some(places) = self.names.found(looked_up.name.as_str()) else {
@@ -98,8 +91,7 @@ impl<H: ReplyHook + Drop, W: Wire + Drop> EventLoop<H, W> {
 
     /// The name of the exchange in that place was looked up.
     fn go_to<N: Network<W>>(&mut self, net: &mut N, place: usize, looked_up: &LookedUp)
-        ensures goes { Goes self.old self.new }
-        ensures told { TellsLoop (N.told net.old) (N.told net.new) self.old self.new }
+        ensures goes { Goes (N.value net.old) (N.value net.new) self.old self.new }
     {
         match first_of(self.alloc, looked_up.addresses.as_slice()) {
             Ok(addresses) => {
@@ -114,8 +106,7 @@ impl<H: ReplyHook + Drop, W: Wire + Drop> EventLoop<H, W> {
     /// Connects the exchange in that place to the next of its addresses that does not refuse at once, and writes its
     /// request. Where there is none, it is lost by what is told.
     pub(crate) fn try_next<N: Network<W>>(&mut self, net: &mut N, place: usize, loss: Loss)
-        ensures goes { Goes self.old self.new }
-        ensures told { TellsLoop (N.told net.old) (N.told net.new) self.old self.new }
+        ensures goes { Goes (N.value net.old) (N.value net.new) self.old self.new }
     {
         let mut loss = loss;
         for _address in 0..MOST_ADDRESSES {
@@ -133,8 +124,7 @@ impl<H: ReplyHook + Drop, W: Wire + Drop> EventLoop<H, W> {
 
     /// Watches the new stream of the exchange in that place, and sets its time.
     fn watch<N: Network<W>>(&mut self, net: &mut N, place: usize)
-        ensures goes { Goes self.old self.new }
-        ensures told { TellsLoop (N.told net.old) (N.told net.new) self.old self.new }
+        ensures goes { Goes (N.value net.old) (N.value net.new) self.old self.new }
     {
         if !self.exchanges.watch(net, place) {
             return self.lose(net, place, Some(Loss::NotWatched));
@@ -145,8 +135,7 @@ impl<H: ReplyHook + Drop, W: Wire + Drop> EventLoop<H, W> {
 
     /// Where the time of the exchange in that place is over, it is the next address's turn, or it is lost.
     fn time_out<N: Network<W>>(&mut self, net: &mut N, place: usize)
-        ensures goes { Goes self.old self.new }
-        ensures told { TellsLoop (N.told net.old) (N.told net.new) self.old self.new }
+        ensures goes { Goes (N.value net.old) (N.value net.new) self.old self.new }
     {
         if self.exchanges.is_late(place) {
             let loss = self.exchanges.loss_at_deadline(place);
@@ -159,11 +148,10 @@ impl<H: ReplyHook + Drop, W: Wire + Drop> EventLoop<H, W> {
     /// Writes and reads the stream of the exchange in that place, and sees to its time. It is given up where nobody waits
     /// for it.
     pub(crate) fn serve_exchange<N: Network<W>>(&mut self, net: &mut N, place: usize)
-        ensures goes { Goes self.old self.new }
-        ensures told { TellsLoop (N.told net.old) (N.told net.new) self.old self.new }
+        ensures goes { Goes (N.value net.old) (N.value net.new) self.old self.new }
     {
         if !self.exchanges.is_wanted(place) {
-            return self.give_up(place);
+            return self.give_up(net, place);
         }
         match self.exchanges.step(place) {
             Progress::Waits | Progress::More => self.time_out(net, place),
@@ -174,81 +162,75 @@ impl<H: ReplyHook + Drop, W: Wire + Drop> EventLoop<H, W> {
 
     /// The exchange in that place is over: what came of it is recorded, and what that decides is seen to.
     pub(crate) fn end<N: Network<W>>(&mut self, net: &mut N, place: usize)
-        ensures goes { Goes self.old self.new }
-        ensures told { TellsLoop (N.told net.old) (N.told net.new) self.old self.new }
+        ensures goes { Goes (N.value net.old) (N.value net.new) self.old self.new }
     {
         // a later moment comes first
         self.tick(net);
-        let Some((client, call)) = self.finish(place) else {
+        let Some((client, call)) = self.finish(net, place) else {
             return;
         };
         self.note(client);
         if !self.clients().core().is_wanted(&call) {
-            self.give_up_unwanted(client);
+            self.give_up_unwanted(net, client);
         }
     }
 
     /// The exchange in that place is over, and lost by this if it had not ended; None for want of memory.
     pub(crate) fn lose<N: Network<W>>(&mut self, net: &mut N, place: usize, loss: Option<Loss>)
-        ensures goes { Goes self.old self.new }
-        ensures told { TellsLoop (N.told net.old) (N.told net.new) self.old self.new }
+        ensures goes { Goes (N.value net.old) (N.value net.new) self.old self.new }
     {
         self.exchanges.lose(place, loss);
         self.end(net, place);
     }
 
     /// Frees all that the exchange in that place has, and records what came of it: the place of its client, and its
-    /// call. Its stream waits for its backend's end, if its reply came whole, and that end is not known to be there.
-    pub(crate) fn finish(&mut self, place: usize) -> Option<(usize, CallId)>
-        ensures goes { Goes self.old self.new }
-        ensures told { self.new.side.told ≡ self.old.side.told }
+    /// call.
+    pub(crate) fn finish<N: Network<W>>(
+        &mut self,
+        net: &mut N,
+        place: usize,
+    ) -> Option<(usize, CallId)>
+        ensures goes { Goes (N.value net.old) (N.value net.new) self.old self.new }
     {
         let asking = self.exchanges.asking(place)?;
         self.names
             .leave(asking.job().address(), asking.errand().waits);
-        let (end, errand, stream) = self.exchanges.finish(place)?;
+        let (end, errand) = self.exchanges.finish(net, place)?;
         let client = errand.client?;
         self.exchanges.forget_exchange(client, place);
         let call = end.job.call();
         self.ends.keep(end);
-        let stream = stream.filter(|_| !errand.has_ended);
-        let until = self.clients().moment().saturating_add(CLOSING);
-        self.closing.keep(stream, exchange_token(place), until);
         Some((client, call))
     }
 
     /// The connection of a client was closed, which had these exchanges: they are given up.
-    pub(crate) fn give_up_all(&mut self, places: Vec<usize>)
-        ensures goes { Goes self.old self.new }
-        ensures told { self.new.side.told ≡ self.old.side.told }
+    pub(crate) fn give_up_all<N: Network<W>>(&mut self, net: &mut N, places: Vec<usize>)
+        ensures goes { Goes (N.value net.old) (N.value net.new) self.old self.new }
     {
         self.unasked.note_ended();
-        self.give_up_places(places);
+        self.give_up_places(net, places);
     }
 
     /// Gives up these exchanges, for which nobody waits any more.
-    fn give_up_places(&mut self, places: Vec<usize>)
-        ensures goes { Goes self.old self.new }
-        ensures told { self.new.side.told ≡ self.old.side.told }
+    fn give_up_places<N: Network<W>>(&mut self, net: &mut N, places: Vec<usize>)
+        ensures goes { Goes (N.value net.old) (N.value net.new) self.old self.new }
     {
         for place in places {
-            self.give_up(place);
+            self.give_up(net, place);
         }
     }
 
     /// Calls of the client in that place may have ended: its exchanges are given up for which nobody waits any more.
-    pub(crate) fn give_up_unwanted(&mut self, client: usize)
-        ensures goes { Goes self.old self.new }
-        ensures told { self.new.side.told ≡ self.old.side.told }
+    pub(crate) fn give_up_unwanted<N: Network<W>>(&mut self, net: &mut N, client: usize)
+        ensures goes { Goes (N.value net.old) (N.value net.new) self.old self.new }
     {
         self.unasked.note_ended();
-        self.give_up_each(client);
+        self.give_up_each(net, client);
     }
 
     /// Gives up the exchanges of the client in that place for which nobody waits any more.
-    fn give_up_each(&mut self, client: usize)
-        ensures goes { Goes self.old self.new }
-        ensures told { self.new.side.told ≡ self.old.side.told }
+    fn give_up_each<N: Network<W>>(&mut self, net: &mut N, client: usize)
+        ensures goes { Goes (N.value net.old) (N.value net.new) self.old self.new }
     {
         let mut number = 0usize;
         for _exchange in 0..MOST_EXCHANGES {
@@ -258,15 +240,14 @@ impl<H: ReplyHook + Drop, W: Wire + Drop> EventLoop<H, W> {
             if self.exchanges.is_wanted(place) {
                 number = number.saturating_add(1);
             } else {
-                self.give_up(place);
+                self.give_up(net, place);
             }
         }
     }
 
     /// Gives up the exchange in that place: nobody waits for it any more.
-    fn give_up(&mut self, place: usize)
-        ensures goes { Goes self.old self.new }
-        ensures told { self.new.side.told ≡ self.old.side.told }
+    fn give_up<N: Network<W>>(&mut self, net: &mut N, place: usize)
+        ensures goes { Goes (N.value net.old) (N.value net.new) self.old self.new }
     {
         // where its own time or its call's ended the call, that is why
         let loss = if self.exchanges.is_late(place) {
@@ -275,13 +256,13 @@ impl<H: ReplyHook + Drop, W: Wire + Drop> EventLoop<H, W> {
             Loss::NotWanted
         };
         self.exchanges.lose(place, Some(loss));
-        let _ended = self.finish(place);
+        let _ended = self.finish(net, place);
     }
 }
 
 /// Tells that the backend of a branch is not asked, unless that is told already.
 fn tell_unasked<W: Wire, N: Network<W>>(net: &mut N, end: Option<BranchEnd>, is_told: bool)
-    ensures { N.told net.new ≡ N.told net.old }
+    ensures { N.value net.new ≡ N.value net.old }
 {
     match end {
         Some(end) if !is_told => net.tell_unasked(&end.job),

@@ -1,13 +1,14 @@
 ghost use Rattle.std.specs.Prelude.{◌≡◌, ◌-◌, ◌==◌, length, IfOk};
 ghost use Rattle.gateway_model.specs.History.{no_history};
 ghost use Rattle.gateway_theory.specs.Gateway.{jobs_of};
-ghost use Rattle.gateway_theory.specs.Served.{Served};
+ghost use Rattle.connect_codec.specs.declared.answer.Outcome.{Outcome};
+ghost use Rattle.loop_model.specs.Accounts.{AccountsFor, NetworkValue, first_account};
+ghost use Rattle.loop_model.specs.Holding.{Holds};
 ghost use Rattle.loop_model.specs.Standing.{count_clients, count_lingering};
 ghost use Rattle.loop_model.specs.Whole.{IsExplainedLoop};
 ghost use Rattle.gateway_loop.specs.Loop.{StartsLoop};
 
 use crate::clients::Clients;
-use crate::closing::ClosingStreams;
 use crate::ends::Ends;
 use crate::exchanges::Exchanges;
 use crate::limits::MOST_CLIENTS;
@@ -45,7 +46,6 @@ pub struct EventLoop<H, W: Wire> {
     pub(crate) names: Names,
     pub(crate) ends: Ends,
     pub(crate) unasked: Unasked,
-    pub(crate) closing: ClosingStreams<W>,
     // the places of clients for whom something may be there
     pub(crate) noted: VecDeque<usize>,
     // what the last look told
@@ -66,14 +66,14 @@ impl<H: ReplyHook + Drop, W: Wire + Drop> EventLoop<H, W> {
         ensures framing { IfOk result (λ l. l.framing ≡ framing) }
         ensures plans { IfOk result (λ l. l.side.core.plans ≡ plans) }
         ensures starts { IfOk result StartsLoop }
-        ensures serves { IfOk result (λ l. Served l.side.core no_history) }
+        ensures serves { IfOk result (λ l. (unknown : Outcome) → Holds unknown no_history l.side) }
+        ensures accounts { IfOk result (λ l. (a : NetworkValue) → AccountsFor (first_account a) a l) }
     {
         Ok(EventLoop {
             alloc,
             names: Names::new(alloc),
             ends: Ends::new(alloc)?,
             unasked: Unasked::new(alloc),
-            closing: ClosingStreams::new(alloc)?,
             noted: VecDeque::with_capacity(alloc, 2 * MOST_CLIENTS)?,
             next: NextTurn::AtOnce,
             exchanges: Exchanges::new(alloc, plans, framing)?,

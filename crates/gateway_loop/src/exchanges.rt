@@ -1,18 +1,21 @@
-ghost use Rattle.std.specs.Prelude.{◌≡◌, [], IfOk, IsFalse, IsTrue};
-ghost use Rattle.gateway_loop.specs.Loop.{Goes, StartsLoop};
+ghost use Rattle.std.specs.Prelude.{◌≡◌, [], IfOk, IsFalse, IsTrue, true};
+ghost use Rattle.connect_codec.specs.declared.answer.Outcome.{Outcome};
+ghost use Rattle.gateway_loop.specs.Loop.{Admits, Goes, GoesAlone, StartsLoop};
 ghost use Rattle.gateway_loop.specs.Rests.{AllAskingRest, WaitsForPlace, is_watched_as, rests_asking};
 ghost use Rattle.gateway_model.specs.History.{no_history};
-ghost use Rattle.gateway_theory.specs.Served.{Served};
 ghost use Rattle.gateway_theory.specs.Values.{shown};
+ghost use Rattle.loop_model.specs.Accounts.{AccountsOn, NetworkValue};
 ghost use Rattle.loop_model.specs.Growing.{HasTicked};
+ghost use Rattle.loop_model.specs.Holding.{Holds};
 ghost use Rattle.loop_model.specs.Reports.{changed_at, tell, told_asking};
 ghost use Rattle.loop_model.specs.Rest.{RestsTill};
-ghost use Rattle.loop_model.specs.Whole.{IsExplainedLoop, TellsLoop, draining_loop};
+ghost use Rattle.loop_model.specs.Whole.{ContinuesLoop, IsExplainedLoop};
 
 use crate::client::{Heard, Written};
 use crate::clients::Clients;
+use crate::closing::ClosingStreams;
 use crate::comings::Dealt;
-use crate::limits::{ATTEMPT, MOST_EXCHANGES, is_due, is_not_after, places_with};
+use crate::limits::{ATTEMPT, CLOSING, MOST_EXCHANGES, is_due, is_not_after, places_with};
 use crate::tokens::{Owner, exchange_token, is_exchanges, owner_of};
 use branch_asking::{Asking, BranchEnd, Errand, Network, Progress};
 use branch_causes::Cause;
@@ -41,23 +44,26 @@ pub(crate) struct Exchanges<H, W: Wire> {
     asking: Slab<Asking<W>>,
     // so many places have exchanges, or had some since none was there
     places: usize,
+    // the streams that wait for their backends' ends
+    closing: ClosingStreams<W>,
     // for proofs: those that ended, each with the outcome that was recorded
     ended: Log<Asking<W>, Option<Outcome>>,
 }
 
 impl<H, W: Wire> Model for Exchanges<H, W> {
+    ghost use Rattle.std.specs.Prelude.{[]};
     ghost use Rattle.loop_model.specs.Whole.{AsksFairly, WholeLoop};
     ghost use Rattle.gateway_loop.specs.Loop.{AreFramed, whole_loop};
 
     ghost Value = { WholeLoop };
 
-    ghost view = { λ l. whole_loop l.framing l.clients l.asking.slots l.ended.items };
+    ghost view = { λ l. whole_loop l.framing l.clients l.asking.slots l.ended.items l.closing };
 
-    ghost invariant = { λ l. AsksFairly (whole_loop l.framing l.clients l.asking.slots l.ended.items)
+    ghost invariant = { λ l. AsksFairly (whole_loop l.framing l.clients l.asking.slots l.ended.items [])
         × AreFramed l.framing l.asking.slots };
 }
 
-#[tactic(auto, using(crate::proofs::AskLemmas::goes_side, crate::proofs::AskLemmas::keeps_asking))]
+#[tactic(auto, using(crate::proofs::AskLemmas::keeps_asking))]
 impl<H: ReplyHook + Drop, W: Wire + Drop> Exchanges<H, W> {
     /// A core that serves these plans, with no client and no job. Replies of backends may be framed so.
     pub(crate) fn new(
@@ -68,7 +74,7 @@ impl<H: ReplyHook + Drop, W: Wire + Drop> Exchanges<H, W> {
         ensures framing { IfOk result (λ l. l.framing ≡ framing) }
         ensures plans { IfOk result (λ l. l.side.core.plans ≡ plans) }
         ensures starts { IfOk result StartsLoop }
-        ensures serves { IfOk result (λ l. Served l.side.core no_history) }
+        ensures serves { IfOk result (λ l. (unknown : Outcome) → Holds unknown no_history l.side) }
     {
         Ok(Exchanges {
             alloc,
@@ -76,6 +82,7 @@ impl<H: ReplyHook + Drop, W: Wire + Drop> Exchanges<H, W> {
             asking: Slab::with_capacity(alloc, MOST_EXCHANGES)?,
             places: 0,
             clients: Clients::new(alloc, plans)?,
+            closing: ClosingStreams::new(alloc)?,
             ended: Log::new(),
         })
     }
@@ -89,26 +96,22 @@ impl<H: ReplyHook + Drop, W: Wire + Drop> Exchanges<H, W> {
 
     /// Opens a connection for the stream: the place of its client. Where none can be opened, the stream is closed
     /// without a byte.
-    pub(crate) fn open(&mut self, dealt: Dealt<H, W>) -> Option<usize>
-        ensures goes { Goes self.old self.new }
-        ensures told { self.new.side.told ≡ self.old.side.told }
+    pub(crate) fn open<N: Network<W>>(&mut self, net: &mut N, dealt: Dealt<H, W>) -> Option<usize>
+        ensures goes { Admits 1 (N.value net.old) (N.value net.new) self.old self.new }
     {
-        self.clients.open(dealt)
+        self.clients.open(net, dealt)
     }
 
     /// Reads the stream of the client in that place once, and hands on what came; of one that lingers it is dropped.
     pub(crate) fn read(&mut self, place: usize) -> Heard
-        ensures goes { Goes self.old self.new }
-        ensures told { self.new.side.told ≡ self.old.side.told }
+        ensures goes { GoesAlone self.old self.new }
     {
         self.clients.read(place)
     }
 
     /// Writes what can be written of the replies that are there to the client in that place.
     pub(crate) fn write<N: Network<W>>(&mut self, net: &mut N, place: usize) -> Written
-        ensures goes { Goes self.old self.new }
-        ensures told { self.new.side.told ≡ self.old.side.told }
-        ensures same { N.told net.new ≡ N.told net.old }
+        ensures goes { Goes (N.value net.old) (N.value net.new) self.old self.new }
     {
         self.clients.write(net, place)
     }
@@ -116,34 +119,32 @@ impl<H: ReplyHook + Drop, W: Wire + Drop> Exchanges<H, W> {
     /// Closes the connection of the client in that place, which lingers from now on, until then at most: what still
     /// comes is dropped.
     pub(crate) fn leave(&mut self, place: usize, until: u64)
-        ensures goes { Goes self.old self.new }
-        ensures told { self.new.side.told ≡ self.old.side.told }
+        ensures goes { GoesAlone self.old self.new }
     {
         self.clients.leave(place, until);
     }
 
     /// Closes the stream of the client in that place, and its connection.
-    pub(crate) fn let_go(&mut self, place: usize)
-        ensures goes { Goes self.old self.new }
-        ensures told { self.new.side.told ≡ self.old.side.told }
+    pub(crate) fn let_go<N: Network<W>>(&mut self, net: &mut N, place: usize)
+        ensures goes { Goes (N.value net.old) (N.value net.new) self.old self.new }
     {
-        self.clients.let_go(place);
+        self.clients.let_go(net, place);
     }
 
     /// Hands in the present moment, unless that would change nothing. Answers whether something may have come of it
     /// for any client.
     pub(crate) fn tick<N: Network<W>>(&mut self, net: &mut N) -> bool
-        ensures goes { Goes self.old self.new }
+        ensures goes { Goes (N.value net.old) (N.value net.new) self.old self.new }
         ensures ticks { HasTicked self.old.side self.new.side }
-        ensures told { TellsLoop (N.told net.old) (N.told net.new) self.old self.new }
     {
         self.clients.tick(net)
     }
 
     /// The drain begins: calls that are undecided end, and those that come are refused.
     pub(crate) fn drain(&mut self)
-        ensures goes { Goes (draining_loop self.old) self.new }
-        ensures told { self.new.side.told ≡ self.old.side.told }
+        ensures continues { ContinuesLoop self.old self.new }
+        ensures accounts { (a : NetworkValue) → AccountsOn 0 a a self.old self.new }
+        ensures drained { self.new.side.drained ≡ true }
     {
         self.clients.drain();
     }
@@ -201,12 +202,14 @@ impl<H: ReplyHook + Drop, W: Wire + Drop> Exchanges<H, W> {
         self.places
     }
 
-    /// The first limit of a call, of an exchange, and of an address that has to accept.
+    /// The first limit of a call, of an exchange, of an address that has to accept, and of a stream that waits for its
+    /// end.
     pub(crate) fn next_until(&self) -> Option<u64> {
         let asking = self.asking.iter();
         let deadlines = self.clients.core().next_deadline().into_iter();
         deadlines
             .chain(asking.filter_map(|asking| first_limit(asking.1)))
+            .chain(self.closing.next_until())
             .min()
     }
 
@@ -236,9 +239,7 @@ impl<H: ReplyHook + Drop, W: Wire + Drop> Exchanges<H, W> {
 
     /// Watches the stream of the exchange in that place. False where it can't be.
     pub(crate) fn watch<N: Network<W>>(&mut self, net: &mut N, place: usize) -> bool
-        ensures goes { Goes self.old self.new }
-        ensures told { self.new.side.told ≡ self.old.side.told }
-        ensures same { N.told net.new ≡ N.told net.old }
+        ensures goes { Goes (N.value net.old) (N.value net.new) self.old self.new }
     {
         let Some(mut asking) = self.asking.try_remove(place) else {
             return false;
@@ -251,8 +252,7 @@ impl<H: ReplyHook + Drop, W: Wire + Drop> Exchanges<H, W> {
 
     /// Takes the next job, which is asked for from now on: its place. None if none waits, or too many are asked for.
     pub(crate) fn begin(&mut self) -> Option<usize>
-        ensures goes { Goes self.old self.new }
-        ensures told { self.new.side.told ≡ self.old.side.told }
+        ensures goes { GoesAlone self.old self.new }
     {
         if self.asking.len() >= MOST_EXCHANGES || self.asking.reserve(1).is_err() {
             return None;
@@ -268,8 +268,7 @@ impl<H: ReplyHook + Drop, W: Wire + Drop> Exchanges<H, W> {
 
     /// The exchange in that place writes what it can, and then reads what it can.
     pub(crate) fn step(&mut self, place: usize) -> Progress
-        ensures goes { Goes self.old self.new }
-        ensures told { self.new.side.told ≡ self.old.side.told }
+        ensures goes { GoesAlone self.old self.new }
     {
         let Some(mut asking) = self.asking.try_remove(place) else {
             return Progress::Waits;
@@ -283,9 +282,7 @@ impl<H: ReplyHook + Drop, W: Wire + Drop> Exchanges<H, W> {
     /// The exchange in that place goes over a stream to the next of its addresses from now on. False where there is
     /// none.
     pub(crate) fn connect<N: Network<W>>(&mut self, net: &mut N, place: usize) -> bool
-        ensures goes { Goes self.old self.new }
-        ensures told { self.new.side.told ≡ self.old.side.told }
-        ensures same { N.told net.new ≡ N.told net.old }
+        ensures goes { Goes (N.value net.old) (N.value net.new) self.old self.new }
     {
         let Some(mut asking) = self.asking.try_remove(place) else {
             return false;
@@ -298,8 +295,7 @@ impl<H: ReplyHook + Drop, W: Wire + Drop> Exchanges<H, W> {
 
     /// Whether the address of the exchange in that place is no name. It is to be tried then.
     pub(crate) fn has_address(&mut self, place: usize) -> bool
-        ensures goes { Goes self.old self.new }
-        ensures told { self.new.side.told ≡ self.old.side.told }
+        ensures goes { GoesAlone self.old self.new }
     {
         let Some(mut asking) = self.asking.try_remove(place) else {
             return false;
@@ -312,8 +308,7 @@ impl<H: ReplyHook + Drop, W: Wire + Drop> Exchanges<H, W> {
 
     /// These addresses were found for the name. They are to be tried for the exchange in that place.
     pub(crate) fn find(&mut self, place: usize, name: &str, found: VecDeque<SocketAddr>)
-        ensures goes { Goes self.old self.new }
-        ensures told { self.new.side.told ≡ self.old.side.told }
+        ensures goes { GoesAlone self.old self.new }
     {
         let Some(mut asking) = self.asking.try_remove(place) else {
             return;
@@ -326,8 +321,7 @@ impl<H: ReplyHook + Drop, W: Wire + Drop> Exchanges<H, W> {
     /// The exchange in that place is over. One that had not ended is lost by this, whatever was read; None for want of
     /// memory.
     pub(crate) fn lose(&mut self, place: usize, loss: Option<Loss>)
-        ensures goes { Goes self.old self.new }
-        ensures told { self.new.side.told ≡ self.old.side.told }
+        ensures goes { GoesAlone self.old self.new }
     {
         let Some(mut asking) = self.asking.try_remove(place) else {
             return;
@@ -337,11 +331,14 @@ impl<H: ReplyHook + Drop, W: Wire + Drop> Exchanges<H, W> {
         let _place = self.asking.insert_reserved(asking);
     }
 
-    /// Records what came of the exchange in that place, which leaves it: that, what was noted of it, and its stream, if
-    /// its reply came whole.
-    pub(crate) fn finish(&mut self, place: usize) -> Option<(BranchEnd, Errand, Option<W>)>
-        ensures goes { Goes self.old self.new }
-        ensures told { self.new.side.told ≡ self.old.side.told }
+    /// Records what came of the exchange in that place, which leaves it: that, and what was noted of it. Its stream waits
+    /// for its backend's end, if its reply came whole and that end is not known to be there; else it is closed.
+    pub(crate) fn finish<N: Network<W>>(
+        &mut self,
+        net: &mut N,
+        place: usize,
+    ) -> Option<(BranchEnd, Errand)>
+        ensures goes { Goes (N.value net.old) (N.value net.new) self.old self.new }
     {
         let mut asking = self.asking.try_remove(place)?;
         let cause = asking.cause();
@@ -352,14 +349,29 @@ impl<H: ReplyHook + Drop, W: Wire + Drop> Exchanges<H, W> {
         self.ended = self.ended.and(&asking, &outcome);
         let (job, errand, stream) = asking.into_parts();
         self.clients.record(&job, outcome);
-        let took = self.clients.moment().saturating_sub(errand.began);
+        let moment = self.clients.moment();
+        let waits = is_whole && !errand.has_ended;
+        self.closing.put(
+            net,
+            stream,
+            waits,
+            exchange_token(place),
+            moment.saturating_add(CLOSING),
+        );
         let end = BranchEnd {
             job,
             cause,
             status,
-            took,
+            took: moment.saturating_sub(errand.began),
         };
-        Some((end, errand, stream.filter(|_| is_whole)))
+        Some((end, errand))
+    }
+
+    /// Closes the streams that have waited long enough for their backends' ends.
+    pub(crate) fn close_due<N: Network<W>>(&mut self, net: &mut N)
+        ensures goes { Goes (N.value net.old) (N.value net.new) self.old self.new }
+    {
+        self.closing.expire(net, self.clients.moment());
     }
 }
 
@@ -367,18 +379,34 @@ impl<H: ReplyHook + Drop, W: Wire + Drop> Exchanges<H, W> {
 impl<H: ReplyHook + Drop, W: Wire + Drop> Exchanges<H, W> {
     /// Watches the stream of the client in that place. False where it can't be.
     pub(crate) fn watch_client<N: Network<W>>(&mut self, net: &mut N, place: usize) -> bool
-        ensures goes { Goes self.old self.new }
-        ensures told { self.new.side.told ≡ self.old.side.told }
-        ensures same { N.told net.new ≡ N.told net.old }
+        ensures goes { Goes (N.value net.old) (N.value net.new) self.old self.new }
     {
         self.clients.watch(net, place)
     }
 
+    /// Something became possible at the stream of whom the token names. One that had the token before, and waits for its
+    /// backend's end, is closed if that is there.
+    pub(crate) fn note_ready<N: Network<W>>(&mut self, net: &mut N, ready: Ready)
+        ensures exact { self.new ≡ record (tell ready self.old) { closing = self.new.closing } }
+        ensures goes { Goes (N.value net.old) (N.value net.new) self.old self.new }
+    {
+        let is_shared = self.close_ended(net, ready);
+        self.tell_ready(ready, is_shared);
+    }
+
+    /// Closes the stream that waits for its backend's end under that token, if that is there. Answers whether one did.
+    fn close_ended<N: Network<W>>(&mut self, net: &mut N, ready: Ready) -> bool
+        ensures rest { self.new ≡ record self.old { closing = self.new.closing } }
+        ensures goes { Goes (N.value net.old) (N.value net.new) self.old self.new }
+    {
+        self.closing.note_ready(net, ready)
+    }
+
     /// Something became possible at the stream of whom the token names; whether that may be told of another's, too, that
     /// had the token before.
-    pub(crate) fn note_ready(&mut self, ready: Ready, is_shared: bool)
+    fn tell_ready(&mut self, ready: Ready, is_shared: bool)
         ensures exact { self.new ≡ tell ready self.old }
-        ensures goes { Goes self.old self.new }
+        ensures goes { GoesAlone self.old self.new }
     {
         match owner_of(ready.token) {
             Owner::Client(place) => self.clients.note_ready(place, ready),
@@ -389,7 +417,7 @@ impl<H: ReplyHook + Drop, W: Wire + Drop> Exchanges<H, W> {
     /// Something became possible at the stream of the exchange in that place; whether that may be told of another's, too.
     fn report(&mut self, place: usize, ready: Ready, is_shared: bool)
         ensures exact { self.new ≡ record self.old { asking = changed_at (told_asking ready) place self.old.asking } }
-        ensures goes { Goes self.old self.new }
+        ensures goes { GoesAlone self.old self.new }
     {
         if let Some(asking) = self.asking.get_mut(place) {
             asking.report(ready, is_shared);
@@ -474,8 +502,7 @@ impl<H: ReplyHook + Drop, W: Wire + Drop> Exchanges<H, W> {
 
     /// The stream of the exchange in that place has to take a byte until then, where another address follows.
     pub(crate) fn set_until(&mut self, place: usize, until: Option<u64>)
-        ensures goes { Goes self.old self.new }
-        ensures told { self.new.side.told ≡ self.old.side.told }
+        ensures goes { GoesAlone self.old self.new }
     {
         let Some(mut asking) = self.asking.try_remove(place) else {
             return;

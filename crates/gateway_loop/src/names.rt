@@ -34,7 +34,7 @@ impl Names {
         name: &str,
         place: usize,
     ) -> Result<Option<usize>, AllocError>
-        ensures { N.told net.new ≡ N.told net.old }
+        ensures { N.value net.new ≡ N.value net.old }
     {
         if let Some(index) = self.index(name) {
             return Ok(Some(self.names[index].places.insert(place)?));

@@ -35,10 +35,7 @@ impl<H: ReplyHook + Drop, W: Wire + Drop> EventLoop<H, W> {
     /// The first limit of a call, of a client that lingers, of an exchange, and of a stream that waits for its end.
     fn next_until(&self) -> Option<u64> {
         let limits = self.exchanges.next_until().into_iter();
-        limits
-            .chain(self.clients().next_until())
-            .chain(self.closing.next_until())
-            .min()
+        limits.chain(self.clients().next_until()).min()
     }
 
     /// Whether somebody may not rest to whom nothing came: not all did as it was looked last, or a limit has come since.

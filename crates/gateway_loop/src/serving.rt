@@ -1,6 +1,7 @@
-ghost use Rattle.gateway_loop.specs.Loop.{Goes};
-ghost use Rattle.loop_model.specs.Whole.{ContinuesLoop, TellsLoop};
-ghost use Rattle.std.specs.Prelude.{◌≡◌};
+ghost use Rattle.gateway_loop.specs.Loop.{Admits, Goes, GoesAlone};
+ghost use Rattle.loop_model.specs.Accounts.{AccountsOn};
+ghost use Rattle.loop_model.specs.Whole.{ContinuesLoop};
+ghost use Rattle.std.specs.Prelude.{◌≡◌, length};
 
 use crate::client::{Heard, Written};
 use crate::comings::Dealt;
@@ -19,10 +20,9 @@ impl<H: ReplyHook + Drop, W: Wire + Drop> EventLoop<H, W> {
         net: &mut N,
         streams: &mut VecDeque<Dealt<H, W>>,
     )
-        ensures goes { Goes self.old self.new }
-        ensures told { TellsLoop (N.told net.old) (N.told net.new) self.old self.new }
+        ensures goes { Admits (length streams.old.items) (N.value net.old) (N.value net.new) self.old self.new }
     {
-        for dealt in streams.drain(..) {
+        while let Some(dealt) = streams.pop_front() {
             self.admit(net, dealt);
         }
     }
@@ -30,14 +30,13 @@ impl<H: ReplyHook + Drop, W: Wire + Drop> EventLoop<H, W> {
     /// Opens a connection for the stream. Where none can be opened, or the stream not be watched, it is closed without
     /// a byte.
     fn admit<N: Network<W>>(&mut self, net: &mut N, dealt: Dealt<H, W>)
-        ensures goes { Goes self.old self.new }
-        ensures told { TellsLoop (N.told net.old) (N.told net.new) self.old self.new }
+        ensures goes { Admits 1 (N.value net.old) (N.value net.new) self.old self.new }
     {
-        let Some(place) = self.exchanges.open(dealt) else {
+        let Some(place) = self.exchanges.open(net, dealt) else {
             return net.tell_unserved();
         };
         if !self.exchanges.watch_client(net, place) {
-            self.drop_client(place);
+            self.drop_client(net, place);
             net.tell_unserved();
         }
     }
@@ -62,17 +61,16 @@ impl<H: ReplyHook + Drop, W: Wire + Drop> EventLoop<H, W> {
 
     /// Reads the client's stream once, if it is to be read. One that lingered long enough goes.
     pub(crate) fn serve_client<N: Network<W>>(&mut self, net: &mut N, place: usize)
-        ensures goes { Goes self.old self.new }
-        ensures told { TellsLoop (N.told net.old) (N.told net.new) self.old self.new }
+        ensures goes { Goes (N.value net.old) (N.value net.new) self.old self.new }
     {
         // before what it brings
         self.tick(net);
         let heard = self.read_client(place);
         if self.clients().is_to_go(place) {
-            return self.drop_client(place);
+            return self.drop_client(net, place);
         }
         if matches!(heard, Heard::Broke | Heard::End) {
-            self.give_up_unwanted(place);
+            self.give_up_unwanted(net, place);
         }
         self.note(place);
     }
@@ -80,8 +78,7 @@ impl<H: ReplyHook + Drop, W: Wire + Drop> EventLoop<H, W> {
     /// Reads the stream of the client in that place, if it is to be read. Notes whether a piece that it brought made no
     /// request, whatever is owed to it.
     fn read_client(&mut self, place: usize) -> Heard
-        ensures goes { Goes self.old self.new }
-        ensures told { self.new.side.told ≡ self.old.side.told }
+        ensures goes { GoesAlone self.old self.new }
     {
         if !self.clients().is_to_be_read(place) {
             return Heard::Nothing;
@@ -97,8 +94,7 @@ impl<H: ReplyHook + Drop, W: Wire + Drop> EventLoop<H, W> {
 
     /// Writes to the clients for whom something may be there. Answers whether there were any.
     pub(crate) fn write_noted<N: Network<W>>(&mut self, net: &mut N) -> bool
-        ensures goes { Goes self.old self.new }
-        ensures told { TellsLoop (N.told net.old) (N.told net.new) self.old self.new }
+        ensures goes { Goes (N.value net.old) (N.value net.new) self.old self.new }
     {
         let mut has_written = false;
         for _client in 0..MOST_CLIENTS {
@@ -113,8 +109,7 @@ impl<H: ReplyHook + Drop, W: Wire + Drop> EventLoop<H, W> {
 
     /// Writes the replies that are there to the client in that place, and lets it leave if nothing more comes.
     fn write_client<N: Network<W>>(&mut self, net: &mut N, place: usize)
-        ensures goes { Goes self.old self.new }
-        ensures told { TellsLoop (N.told net.old) (N.told net.new) self.old self.new }
+        ensures goes { Goes (N.value net.old) (N.value net.new) self.old self.new }
     {
         if self.clients().lingers(place) {
             return;
@@ -122,50 +117,49 @@ impl<H: ReplyHook + Drop, W: Wire + Drop> EventLoop<H, W> {
         let written = self.exchanges.write(net, place);
         if written == Written::Failed {
             self.clients().tell_broken(net, place);
-            self.drop_client(place);
+            self.drop_client(net, place);
         } else if self.clients().is_to_leave(place) {
             self.clients().tell_broken(net, place);
-            self.leave(place);
+            self.leave(net, place);
         }
     }
 
     /// Closes the connections to which nothing is owed: each of its requests has its reply, and that was written. One
     /// whose last bytes made no request stays: its request may be half read.
-    pub fn close_idle(&mut self)
+    pub fn close_idle<N: Network<W>>(&mut self, net: &mut N)
         ensures continues { ContinuesLoop self.old self.new }
-        ensures told { self.new.side.told ≡ self.old.side.told }
+        ensures accounts { AccountsOn 0 (N.value net.old) (N.value net.new) self.old self.new }
+        ensures drained { self.new.side.drained ≡ self.old.side.drained }
     {
         for _client in 0..self.clients().len() {
             let Some(place) = self.clients().idle_place() else {
                 return;
             };
-            self.leave(place);
+            self.leave(net, place);
         }
     }
 
     /// The connection of the client in that place is closed. Its stream lingers, so that what was written is not lost
     /// with what still comes; or it is closed at once, where it has brought its end, or too many linger.
-    pub(crate) fn leave(&mut self, place: usize)
-        ensures goes { Goes self.old self.new }
-        ensures told { self.new.side.told ≡ self.old.side.told }
+    pub(crate) fn leave<N: Network<W>>(&mut self, net: &mut N, place: usize)
+        ensures goes { Goes (N.value net.old) (N.value net.new) self.old self.new }
     {
         let lingers = self.clients().is_read(place) && self.clients().lingering() < MOST_LINGERING;
         let until = self.clients().moment().saturating_add(LINGER);
         let exchanges = self.exchanges.take_exchanges(place);
         self.exchanges.leave(place, until);
-        self.give_up_all(exchanges);
+        self.give_up_all(net, exchanges);
         if !lingers {
-            self.drop_client(place);
+            self.drop_client(net, place);
         }
     }
 
     /// The stream of the client in that place is closed, and its connection.
-    pub(crate) fn drop_client(&mut self, place: usize)
-        ensures goes { Goes self.old self.new }
-        ensures told { self.new.side.told ≡ self.old.side.told }
+    pub(crate) fn drop_client<N: Network<W>>(&mut self, net: &mut N, place: usize)
+        ensures goes { Goes (N.value net.old) (N.value net.new) self.old self.new }
     {
         let exchanges = self.exchanges.take_exchanges(place);
-        self.exchanges.let_go(place);
-        self.give_up_all(exchanges);
+        self.exchanges.let_go(net, place);
+        self.give_up_all(net, exchanges);
     }
 }

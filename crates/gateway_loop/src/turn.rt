@@ -1,8 +1,9 @@
 ghost use Rattle.gateway_loop.specs.Loop.{Goes};
+ghost use Rattle.loop_model.specs.Accounts.{AccountsOn};
 ghost use Rattle.loop_model.specs.Growing.{HasTicked};
 ghost use Rattle.loop_model.specs.Reports.{tell_all};
-ghost use Rattle.loop_model.specs.Whole.{ContinuesLoop, TellsLoop, draining_loop};
-ghost use Rattle.std.specs.Prelude.{◌≡◌};
+ghost use Rattle.loop_model.specs.Whole.{ContinuesLoop};
+ghost use Rattle.std.specs.Prelude.{◌≡◌, length, true};
 
 use crate::comings::Comings;
 use crate::event_loop::EventLoop;
@@ -19,49 +20,53 @@ impl<H: ReplyHook + Drop, W: Wire + Drop> EventLoop<H, W> {
     pub fn turn<N: Network<W>>(&mut self, net: &mut N, comings: &mut Comings<H, W>)
         ensures continues { ContinuesLoop self.old self.new }
         ensures reports { ContinuesLoop (tell_all comings.old.ready.items self.old) self.new }
-        ensures told { TellsLoop (N.told net.old) (N.told net.new) self.old self.new }
+        ensures accounts { AccountsOn (length comings.old.streams.items) (N.value net.old) (N.value net.new) self.old self.new }
         ensures ticks { HasTicked self.old.side self.new.side }
+        ensures drained { self.new.side.drained ≡ self.old.side.drained }
     {
-        self.note_reports(comings.ready.as_slice());
+        self.note_reports(net, comings.ready.as_slice());
         self.tick(net);
         self.admit_all(net, &mut comings.streams);
         self.take_found(net, &mut comings.found);
-        self.serve_ready(net, &mut comings.ready);
+        self.serve(net, &mut comings.ready);
+    }
+
+    /// Serves those of whom the wait told, and all for whom something is left to be done, if there may be some.
+    fn serve<N: Network<W>>(&mut self, net: &mut N, ready: &mut Vec<Ready>)
+        ensures goes { Goes (N.value net.old) (N.value net.new) self.old self.new }
+    {
+        self.serve_ready(net, ready);
         if self.is_restless() {
             self.serve_restless(net);
         }
-        let moment = self.clients().moment();
-        self.closing.expire(moment);
+        self.exchanges.close_due(net);
         self.settle(net);
     }
 
     /// Hands in the present moment, unless that would change nothing: so calls that are due end before anything that
     /// is seen later.
     pub(crate) fn tick<N: Network<W>>(&mut self, net: &mut N)
-        ensures goes { Goes self.old self.new }
+        ensures goes { Goes (N.value net.old) (N.value net.new) self.old self.new }
         ensures ticks { HasTicked self.old.side self.new.side }
-        ensures told { TellsLoop (N.told net.old) (N.told net.new) self.old self.new }
     {
         if self.exchanges.tick(net) {
-            self.look_at_all();
+            self.look_at_all(net);
         }
     }
 
-    /// Tells each report to the stream of its token.
-    fn note_reports(&mut self, reports: &[Ready])
-        ensures exact { self.new ≡ tell_all reports.now self.old }
-        ensures goes { Goes self.old self.new }
+    /// Tells each report to the stream of its token. One that waits for its backend's end is closed by that.
+    fn note_reports<N: Network<W>>(&mut self, net: &mut N, reports: &[Ready])
+        ensures exact { self.new ≡ record (tell_all reports.now self.old) { closing = self.new.closing } }
+        ensures goes { Goes (N.value net.old) (N.value net.new) self.old self.new }
     {
         for ready in reports {
-            let is_shared = self.closing.note_ready(*ready);
-            self.exchanges.note_ready(*ready, is_shared);
+            self.exchanges.note_ready(net, *ready);
         }
     }
 
     /// Serves those of whom the wait told, in that order: so what came first comes first.
     fn serve_ready<N: Network<W>>(&mut self, net: &mut N, ready: &mut Vec<Ready>)
-        ensures goes { Goes self.old self.new }
-        ensures told { TellsLoop (N.told net.old) (N.told net.new) self.old self.new }
+        ensures goes { Goes (N.value net.old) (N.value net.new) self.old self.new }
     {
         for ready in ready.drain(..) {
             match owner_of(ready.token) {
@@ -73,8 +78,7 @@ impl<H: ReplyHook + Drop, W: Wire + Drop> EventLoop<H, W> {
 
     /// Serves all for whom something is left to be done.
     fn serve_restless<N: Network<W>>(&mut self, net: &mut N)
-        ensures goes { Goes self.old self.new }
-        ensures told { TellsLoop (N.told net.old) (N.told net.new) self.old self.new }
+        ensures goes { Goes (N.value net.old) (N.value net.new) self.old self.new }
     {
         self.serve_exchanges(net);
         self.serve_clients(net);
@@ -82,8 +86,7 @@ impl<H: ReplyHook + Drop, W: Wire + Drop> EventLoop<H, W> {
 
     /// Serves each exchange for which something is left to be done.
     fn serve_exchanges<N: Network<W>>(&mut self, net: &mut N)
-        ensures goes { Goes self.old self.new }
-        ensures told { TellsLoop (N.told net.old) (N.told net.new) self.old self.new }
+        ensures goes { Goes (N.value net.old) (N.value net.new) self.old self.new }
     {
         let soon = self.clients().moment().saturating_add(1);
         for place in 0..self.exchanges.places() {
@@ -95,8 +98,7 @@ impl<H: ReplyHook + Drop, W: Wire + Drop> EventLoop<H, W> {
 
     /// Serves each client for whom something is left to be done.
     fn serve_clients<N: Network<W>>(&mut self, net: &mut N)
-        ensures goes { Goes self.old self.new }
-        ensures told { TellsLoop (N.told net.old) (N.told net.new) self.old self.new }
+        ensures goes { Goes (N.value net.old) (N.value net.new) self.old self.new }
     {
         let soon = self.clients().moment().saturating_add(1);
         for place in 0..self.clients().places() {
@@ -109,8 +111,7 @@ impl<H: ReplyHook + Drop, W: Wire + Drop> EventLoop<H, W> {
     /// Writes the replies that are there, and begins to ask for the jobs that came, until neither brings anything more.
     /// Replies go first: none waits while others' branches are connected.
     fn settle<N: Network<W>>(&mut self, net: &mut N)
-        ensures goes { Goes self.old self.new }
-        ensures told { TellsLoop (N.told net.old) (N.told net.new) self.old self.new }
+        ensures goes { Goes (N.value net.old) (N.value net.new) self.old self.new }
     {
         let mut left = MOST_STARTS;
         for _round in 0..MOST_STARTS {
@@ -126,26 +127,26 @@ impl<H: ReplyHook + Drop, W: Wire + Drop> EventLoop<H, W> {
     }
 
     /// The drain begins: calls that are undecided end, and those that come are refused.
-    pub fn drain(&mut self)
-        ensures continues { ContinuesLoop (draining_loop self.old) self.new }
-        ensures told { self.new.side.told ≡ self.old.side.told }
+    pub fn drain<N: Network<W>>(&mut self, net: &mut N)
+        ensures continues { ContinuesLoop self.old self.new }
+        ensures accounts { AccountsOn 0 (N.value net.old) (N.value net.new) self.old self.new }
+        ensures drained { self.new.side.drained ≡ true }
     {
         self.exchanges.drain();
         self.ends.drain();
-        self.look_at_all();
+        self.look_at_all(net);
     }
 
     /// Something may be there for any client, and nobody may wait for any exchange.
-    fn look_at_all(&mut self)
-        ensures goes { Goes self.old self.new }
-        ensures told { self.new.side.told ≡ self.old.side.told }
+    fn look_at_all<N: Network<W>>(&mut self, net: &mut N)
+        ensures goes { Goes (N.value net.old) (N.value net.new) self.old self.new }
     {
         for place in 0..self.clients().places() {
             if self.clients().has_news(place) {
                 self.note(place);
             }
             // also where a call ended behind an undecided one, which shows by nothing else
-            self.give_up_unwanted(place);
+            self.give_up_unwanted(net, place);
         }
     }
 }

@@ -1,5 +1,4 @@
 ghost use Rattle.gateway_loop.specs.Loop.{Goes};
-ghost use Rattle.loop_model.specs.Whole.{TellsLoop};
 ghost use Rattle.std.specs.Prelude.{◌≡◌};
 
 use crate::event_loop::EventLoop;
@@ -62,8 +61,7 @@ impl Unasked {
 impl<H: ReplyHook + Drop, W: Wire + Drop> EventLoop<H, W> {
     /// Tells the branches that wait for a place though their calls have ended, before the replies to these.
     pub(crate) fn tell_unasked<N: Network<W>>(&mut self, net: &mut N)
-        ensures goes { Goes self.old self.new }
-        ensures told { TellsLoop (N.told net.old) (N.told net.new) self.old self.new }
+        ensures goes { Goes (N.value net.old) (N.value net.new) self.old self.new }
     {
         if self.unasked.take_stale() {
             self.tell_waiting(net);
@@ -73,7 +71,7 @@ impl<H: ReplyHook + Drop, W: Wire + Drop> EventLoop<H, W> {
     /// Tells them whether or not calls have ended.
     fn tell_waiting<N: Network<W>>(&mut self, net: &mut N)
         ensures same { self.new ≡ self.old }
-        ensures told { N.told net.new ≡ N.told net.old }
+        ensures net { N.value net.new ≡ N.value net.old }
     {
         for place in 0..self.clients().core().waiting_jobs() {
             self.tell_if_unasked(net, place);
@@ -83,7 +81,7 @@ impl<H: ReplyHook + Drop, W: Wire + Drop> EventLoop<H, W> {
     /// Tells the branch whose job waits in that place of the order, if its call has ended and it is not told yet.
     fn tell_if_unasked<N: Network<W>>(&mut self, net: &mut N, place: usize)
         ensures same { self.new ≡ self.old }
-        ensures told { N.told net.new ≡ N.told net.old }
+        ensures net { N.value net.new ≡ N.value net.old }
     {
         let core = self.exchanges.clients().core();
         let Some(job) = core.waiting_job(place) else {

@@ -7,7 +7,6 @@ use Rattle.gateway_model.specs.Ahead.{BringsNoMore, are_answered, ends_calls, le
 use Rattle.gateway_model.specs.Breaks.{BreakAsTheyMay, InOrder, by_events}
 use Rattle.gateway_model.specs.Events.{connections, is_open}
 use Rattle.gateway_model.specs.Job.{JobValue}
-use Rattle.gateway_model.specs.Occurrence.{Occurrence}
 use Rattle.gateway_model.specs.Past.{ArrivedCall, Past, branch_deadlines, call, can_be_decided, is_broken, marked, outs}
 use Rattle.gateway_model.specs.Queue.{own_events, queued_entries, record_of}
 use Rattle.gateway_model.specs.Record.{is_decided, is_lawful}
@@ -47,10 +46,10 @@ abbrev pub record_now : CallId → Past → Option CallRecord
 record_now id past = if can_be_decided id past then option_map (λ a. record_of a (branch_deadlines id past) (own_events id past)) (call id past) else None
 
 -- after all that came, by which this occurred
-pub record IsKnown (s : Shown) (h : History) (os : List Occurrence) : Type 0 where
-  -- what occurred, and where connections broke
+pub record IsKnown (s : Shown) (h : History) (occurred : List Placed) : Type 0 where
+  -- what occurred, each at its event, and where connections broke
   pub lived : List Placed
-  pub same : occurrences (by_events lived) ≡ os
+  pub same : by_events lived ≡ occurred
   pub in_order : InOrder (length h.events) lived
   pub breaks : BreakAsTheyMay h.opened h.events lived
   -- the connections that are open are those of the events, and those that broke are broken
@@ -72,4 +71,4 @@ pub record IsKnown (s : Shown) (h : History) (os : List Occurrence) : Type 0 whe
   pub deadline_is : s.deadline ≡ least_deadline (connections h.opened h.events) (marked (occurrences lived))
   pub ends_are : (m : ℕ) → s.ends_calls m ≡ ends_calls (connections h.opened h.events) m (marked (occurrences lived))
   -- no call, of whatever connection, has more branches out than its limit
-  pub limit : (id : CallId) (a : ArrivedCall) → call id (marked os) ≡ Some a → s.outs id ≤ a.plan.limit
+  pub limit : (id : CallId) (a : ArrivedCall) → call id (marked (occurrences occurred)) ≡ Some a → s.outs id ≤ a.plan.limit

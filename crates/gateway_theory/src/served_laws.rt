@@ -1,6 +1,5 @@
 //! What the gateway stands for after each event, by what a call makes of its value. The functions do nothing.
 ghost use Rattle.std.specs.Prelude.{◌≡◌, ℕ, List, ◌++◌, ◌∷◌, [], ◌≤◌, false, take, Ok, Err, Some, true, length};
-ghost use Rattle.gateway_model.specs.Occurrence.{Occurrence};
 ghost use Rattle.gateway_theory.specs.declared.fault.StepFault.{StepFault};
 ghost use Rattle.gateway_model.specs.declared.id.CallId.{CallId};
 ghost use Rattle.gateway_model.specs.declared.event.Event.TheVariants.{Opening, Piece};
@@ -57,13 +56,13 @@ pub fn calls_law()
 /// Whatever events a gateway stands for, this is known of what is seen of it.
 pub fn known_law()
     ensures { (v : GatewayValue) (h : History) (occurred : List Placed) → Served v h → Occurs v.plans h.opened h.events occurred
-        → IsKnown (shown v) h (occurrences occurred) }
+        → IsKnown (shown v) h occurred }
 {}
 
 /// What was taken of an open connection begins what is queued for it by all that occurred, also if it broke.
 pub fn begins_law()
-    ensures taken { (s : Shown) (h : History) (os : List Occurrence) → IsKnown s h os → (c : ℕ) → s.is_open c ≡ true
-        → IsPrefixOf (h.taken c) (queued_entries c (marked os)) }
-    ensures bytes { (s : Shown) (h : History) (os : List Occurrence) → IsKnown s h os → (c : ℕ) → s.is_open c ≡ true
-        → IsPrefixOf (bytes_of (h.taken c)) (queued c (marked os)) }
+    ensures taken { (s : Shown) (h : History) (occurred : List Placed) → IsKnown s h occurred → (c : ℕ) → s.is_open c ≡ true
+        → IsPrefixOf (h.taken c) (queued_entries c (marked (occurrences occurred))) }
+    ensures bytes { (s : Shown) (h : History) (occurred : List Placed) → IsKnown s h occurred → (c : ℕ) → s.is_open c ≡ true
+        → IsPrefixOf (bytes_of (h.taken c)) (queued c (marked (occurrences occurred))) }
 {}

@@ -1,5 +1,5 @@
 -- One list of events explains all clients of a loop.
-use Rattle.std.specs.Prelude.{◌≡◌, ℕ, ◌+◌, ◌==◌, Bool, true, false, if◌then◌else◌, nat_lt, not, All, List, ◌++◌, count_by, slice_index_or, reverse, Option, Some, None}
+use Rattle.std.specs.Prelude.{◌≡◌, ℕ, ◌+◌, ◌==◌, Bool, false, if◌then◌else◌, nat_lt, not, All, List, ◌++◌, count_by, slice_index_or, reverse, Option, Some, None}
 use Rattle.std.specs.List.{AllZip}
 use Rattle.std.specs.Option.{option_map_or}
 use Rattle.connect_codec.specs.declared.answer.Outcome.{Outcome}
@@ -8,9 +8,10 @@ use Rattle.gateway_model.specs.History.{History}
 use Rattle.gateway_model.specs.Job.{JobValue}
 use Rattle.gateway_model.specs.Known.{IsKnown}
 use Rattle.gateway_model.specs.Run.{bytes_of}
-use Rattle.gateway_model.specs.Starts.{Placed, occurrences}
+use Rattle.gateway_model.specs.Starts.{Placed}
 use Rattle.gateway_theory.specs.Values.{GatewayValue, shown}
 use Rattle.loop_model.specs.Clients.{ClientValue, IsExplainedClient}
+use Rattle.loop_model.specs.Streams.{ClosedValue, IsUnused}
 use Rattle.loop_model.specs.Handed.{HandsIn, IsResultOf, has_drained, moments, results}
 
 -- what is seen of a loop's clients, and of what went in and out of its core
@@ -19,6 +20,8 @@ pub record LoopValue : Type 0 where
   -- the clients in their places, and those that have gone, in order
   pub clients : List (Option ClientValue)
   pub gone : List ClientValue
+  -- the streams that were dealt to it and not taken in, as they were closed
+  pub unserved : List ClosedValue
   -- the moments that its clock told, in order
   pub told : List ℕ
   -- the results that were handed in, each with its job, and the jobs that were taken, both in order
@@ -26,10 +29,6 @@ pub record LoopValue : Type 0 where
   pub handed : List JobValue
   -- whether it was told to drain
   pub drained : Bool
-
--- the same, once it was told to
-abbrev pub draining : LoopValue → LoopValue
-draining l = record l { drained = true }
 
 -- the client in that place
 abbrev pub at : ℕ → List (Option ClientValue) → Option ClientValue
@@ -44,11 +43,11 @@ abbrev pub count_of : ℕ → LoopValue → ℕ
 count_of c l =
     count_by (λ (o : Option ClientValue). option_map_or (λ (x : ClientValue). x.conn == c) o false) l.clients + count_by (λ (x : ClientValue). x.conn == c) l.gone
 
--- There is one history that the core stands for, and that explains each client, present or gone, each moment and each result, if this is
--- what those branches ended with for whose outcome there was no memory. The drain is in it if the loop was told to drain, and else not.
-pub record IsExplainedBy (unknown : Outcome) (l : LoopValue) : Type 0 where
-  pub history : History
-  pub knows : (occurred : List Placed) → Occurs l.core.plans history.opened history.events occurred → IsKnown (shown l.core) history (occurrences occurred)
+-- The core stands for the history, which explains each client, present or gone, each moment and each result, if this is what those branches
+-- ended with for whose outcome there was no memory. The drain is in it if the loop was told to drain, and else not. No byte went over a stream
+-- that was not taken in.
+pub record Explains (unknown : Outcome) (history : History) (l : LoopValue) : Type 0 where
+  pub knows : (occurred : List Placed) → Occurs l.core.plans history.opened history.events occurred → IsKnown (shown l.core) history occurred
   pub clients : (i : ℕ) (x : ClientValue) → at i l.clients ≡ Some x → IsExplainedClient l.core.plans history x
   -- what was written to one whose connection is open, and then what waits, is all that was taken of its queue
   pub taken : (occurred : List Placed) → Occurs l.core.plans history.opened history.events occurred
@@ -59,11 +58,8 @@ pub record IsExplainedBy (unknown : Outcome) (l : LoopValue) : Type 0 where
   pub each : (c : ℕ) → count_of c l ≡ one_below c (connections history.opened history.events)
   pub gone : All (λ (x : ClientValue). IsExplainedClient l.core.plans history x) l.gone
   pub closed : All (λ (x : ClientValue). is_open history.opened x.conn history.events ≡ false) l.gone
+  pub unserved : All IsUnused l.unserved
   pub told : HandsIn (reverse l.told) (moments history.events)
   pub results : AllZip (IsResultOf unknown) (results history.events) l.results
   pub handed : history.handed ≡ l.handed
   pub drained : has_drained history.events ≡ l.drained
-
--- whatever that was
-abbrev pub IsExplained : LoopValue → Type 0
-IsExplained l = (unknown : Outcome) → IsExplainedBy unknown l

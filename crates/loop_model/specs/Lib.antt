@@ -1,9 +1,13 @@
 pub mod Handed
 pub mod Clients
+pub mod Streams
 pub mod Explained
+pub mod Holding
+pub mod Histories
 pub mod Growing
 pub mod Standing
 pub mod Asking
 pub mod Whole
 pub mod Rest
 pub mod Reports
+pub mod Accounts

@@ -6,20 +6,19 @@ use Rattle.gateway_model.specs.Job.{JobValue}
 use Rattle.gateway_model.specs.Queue.{IsPrefixOf}
 use Rattle.http_pieces.specs.declared.framing.Framing.{Framing}
 use Rattle.loop_model.specs.Asking.{AskingValue, BeginsRequest, EndedValue, IsFair, StreamValue, ended_value}
-use Rattle.loop_model.specs.Explained.{IsExplained, LoopValue, draining}
-use Rattle.loop_model.specs.Growing.{Continues, Tells}
+use Rattle.loop_model.specs.Explained.{LoopValue}
+use Rattle.loop_model.specs.Histories.{IsExplained}
+use Rattle.loop_model.specs.Growing.{Continues}
+use Rattle.loop_model.specs.Streams.{ClosedValue}
 
--- what is seen of a loop: how replies of its backends may be framed, its clients' side, the jobs that are asked for, in their places, and
--- those that were, in the order in which they ended
+-- what is seen of a loop: how replies of its backends may be framed, its clients' side, the jobs that are asked for, in their places, those
+-- that were, in the order in which they ended, and the streams that wait for their backends' ends
 pub record WholeLoop : Type 0 where
   pub framing : Framing
   pub side : LoopValue
   pub asking : List (Option AskingValue)
   pub ended : List EndedValue
-
--- the same, once it was told to drain
-abbrev pub draining_loop : WholeLoop → WholeLoop
-draining_loop w = record w { side = draining w.side }
+  pub closing : List ClosedValue
 
 -- how many jobs with the property are asked for
 abbrev pub count_asked : (JobValue → Bool) → List (Option AskingValue) → ℕ
@@ -83,7 +82,3 @@ pub record ContinuesLoop (v w : WholeLoop) : Type 0 where
   pub asking : (i : ℕ) (x : AskingValue) → asked_at i v.asking ≡ Some x
       → (y : AskingValue) × ((asked_at i w.asking ≡ Some y) ⊎ HasEndedSince v w y) × AsksOn x y
   pub ended : IsPrefixOf v.ended w.ended
-
--- the loop was told what the clock told
-abbrev pub TellsLoop : List ℕ → List ℕ → WholeLoop → WholeLoop → Type 0
-TellsLoop before after v w = Tells before after v.side w.side

@@ -11,6 +11,9 @@ use Rattle.std.specs.declared.net.socket_addr.SocketAddr.{SocketAddr}
 use Rattle.loop_model.specs.Asking.{AskingValue, BeginsRequest, EndedValue, IsUntouched, ended_value, request_of}
 use Rattle.loop_model.specs.Clients.{ClientValue}
 use Rattle.loop_model.specs.Growing.{Continues}
+use Rattle.loop_model.specs.Histories.{Extends, GoesOn}
+use Rattle.loop_model.specs.Explained.{LoopValue}
+use Rattle.gateway_model.specs.History.{History}
 use Rattle.loop_model.specs.Whole.{HasEndedSince, WholeLoop, asked_at}
 use Rattle.loop_rows.specs.LoopRows.{asking, loop_of}
 
@@ -29,17 +32,26 @@ no_peer a e = cc
 none_there : (b : ClientValue) → None ≡ Some b → ⊥
 none_there b e = cc
 
+-- nothing came
+pub extends_none : (h : History) → Extends h h
+extends_none h = record { later = []; events_are = refl; openings = λ place lt. refl; taken = λ c. prefix-refl (h.taken c); handed = prefix-refl h.handed }
+
+pub goes_on : (l : LoopValue) → GoesOn l l
+goes_on l = λ unknown h held. (h, held, extends_none h)
+
 -- nobody is there, and this is more
 pub side_on : (f : Framing) (v : GatewayValue) (results more : List (JobValue × Option Outcome)) (handed : List JobValue)
+    → GoesOn (loop_of f v results handed [] []).side (loop_of f v (results ++ more) handed [] []).side
     → Continues (loop_of f v results handed [] []).side (loop_of f v (results ++ more) handed [] []).side
-side_on f v results more handed = record {
+side_on f v results more handed history = record {
+  history = history;
   plans = refl;
   clients = λ i x is. absurd (none_there x (nobody i ∙ is));
   gone = prefix-refl [];
   told = prefix-refl [];
   results = (more, refl);
+  unserved = prefix-refl [];
   handed = prefix-refl handed;
-  drained = refl;
 }
   where
     nobody : (i : ℕ) → None ≡ Rattle.loop_model.specs.Explained.at i []

@@ -18,6 +18,8 @@ use Rattle.http_pieces.specs.declared.framing.Framing.TheVariants as framing
 use Rattle.http_pieces.specs.declared.reply.HttpReply.{HttpReply}
 use Rattle.http_pieces.specs.declared.reply_fault.ReplyFault.{ReplyFault}
 use Rattle.std.specs.declared.net.socket_addr.SocketAddr.{SocketAddr}
+use Rattle.loop_model.specs.Accounts.{Account, NetworkValue}
+use Rattle.loop_model.specs.Streams.{ClosedValue}
 use Rattle.loop_model.specs.Asking.{AskingValue, EndedValue, StreamValue, ended_value}
 use Rattle.loop_model.specs.Clients.{ClientValue, client_value}
 use Rattle.loop_model.specs.Explained.{LoopValue}
@@ -62,15 +64,16 @@ client_of conn = client_with conn false [] [] false []
 
 -- a loop with these clients in their places, and these who are gone, that was told nothing
 abbrev pub with_clients : GatewayValue → List (Option ClientValue) → List ClientValue → LoopValue
-with_clients core clients gone = record { core = core; clients = clients; gone = gone; told = []; results = []; handed = []; drained = false }
+with_clients core clients gone = record { core = core; clients = clients; gone = gone; unserved = []; told = []; results = []; handed = []; drained = false }
 
 -- a loop without clients, whose replies may be framed so
 abbrev pub loop_of : Framing → GatewayValue → List (JobValue × Option Outcome) → List JobValue → List (Option AskingValue) → List EndedValue → WholeLoop
 loop_of framing core results handed asking ended = record {
   framing = framing;
-  side = record { core = core; clients = []; gone = []; told = []; results = results; handed = handed; drained = false };
+  side = record { core = core; clients = []; gone = []; unserved = []; told = []; results = results; handed = handed; drained = false };
   asking = asking;
   ended = ended;
+  closing = [];
 }
 
 -- .. that asks for one job
@@ -122,7 +125,7 @@ readable token = record { token = token; readable = true; writable = false; read
 
 -- a loop with these clients, which asks for these jobs
 abbrev pub loop_with : GatewayValue → List (Option ClientValue) → List (Option AskingValue) → WholeLoop
-loop_with core clients asking = record { framing = framing.Fixed; side = with_clients core clients []; asking = asking; ended = [] }
+loop_with core clients asking = record { framing = framing.Fixed; side = with_clients core clients []; asking = asking; ended = []; closing = [] }
 
 -- nothing is there for connection 0, which goes on
 pub record IsQuietAt (s : Shown) : Type 0 where
@@ -132,3 +135,19 @@ pub record IsQuietAt (s : Shown) : Type 0 where
 -- its call can still be decided
 abbrev pub IsWantedBy : Shown → JobValue → Type 0
 IsWantedBy s job = is_some (s.recorded job.call) ≡ true
+
+-- a network that made streams to these addresses, and closed these
+abbrev pub network : List SocketAddr → List ClosedValue → NetworkValue
+network made closed = record { told = []; made = made; closed = closed }
+
+-- before its loop it did nothing, and so many streams were dealt to that
+abbrev pub account : ℕ → Account
+account dealt = record { before = network [] []; dealt = dealt }
+
+-- a loop without clients, whose jobs ended so, and where these streams wait to be closed
+abbrev pub with_ends : Framing → GatewayValue → List EndedValue → List ClosedValue → WholeLoop
+with_ends framing core ended closing = record { framing = framing; side = with_clients core [] []; asking = []; ended = ended; closing = closing }
+
+-- .. with these clients, and these who have gone
+abbrev pub with_gone : Framing → GatewayValue → List (Option ClientValue) → List ClientValue → WholeLoop
+with_gone framing core clients gone = record { framing = framing; side = with_clients core clients gone; asking = []; ended = []; closing = [] }

@@ -8,6 +8,7 @@ ghost use Rattle.gateway_theory.specs.Values.{GatewayValue};
 ghost use Rattle.http_pieces.specs.declared.framing.Framing.{Framing};
 ghost use Rattle.http_pieces.specs.declared.framing.Framing.TheVariants as framings;
 ghost use Rattle.loop_model.specs.Asking.{AskingValue, EndedValue, IsFair, stream_value};
+ghost use Rattle.loop_model.specs.Histories.{GoesOn};
 ghost use Rattle.loop_model.specs.Whole.{AsksFairly, ContinuesLoop};
 ghost use Rattle.loop_rows.specs.LoopRows.{asked, asked_at_peer, asking, asks, ended, job, loop_of};
 
@@ -43,12 +44,13 @@ fn other_addresses()
         → AsksFairly (asks f v (asked_at_peer b (a ∷ b ∷ []) j)) → ⊥ }
 {}
 
-/// A job that is asked for goes on with more, over its stream or another, or ends with more.
+/// A job that is asked for goes on with more, over its stream or another, or ends with more, where the history goes on.
 fn jobs_that_go_on()
     ensures more { (a : SocketAddr) (f : Framing) (v : GatewayValue) (j : JobValue) (given got more : List ℕ)
         → ContinuesLoop (asks f v (asked a j [] given got)) (asks f v (asked a j [] given (got ++ more))) }
     ensures another { (a : SocketAddr) (f : Framing) (v : GatewayValue) (j : JobValue) (got : List ℕ) → ContinuesLoop (asks f v (asking j)) (asks f v (asked a j (stream_value a [] [] false ∷ []) [] got)) }
     ensures over { (a : SocketAddr) (f : Framing) (v : GatewayValue) (j : JobValue) (given got more : List ℕ) (o : Option Outcome)
+        → GoesOn (asks f v (asked a j [] given got)).side (loop_of f v ((j, o) ∷ []) (j ∷ []) [] []).side
         → ContinuesLoop (asks f v (asked a j [] given got)) (loop_of f v ((j, o) ∷ []) (j ∷ []) (None ∷ []) (ended a j [] (given ++ more) got o ∷ [])) }
 {}
 

@@ -16,6 +16,9 @@ pub struct ScriptedNetwork {
     moment: u64,
     later: VecDeque<u64>,
     moments: Log<u64, u64>,
+    made: Log<SocketAddr, ()>,
+    closed: Log<Told<MemoryStream>, ()>,
+    closings: u64,
     backends: VecDeque<MemoryStream>,
     connected: Vec<SocketAddr>,
     watched: Vec<(usize, bool)>,
@@ -39,6 +42,9 @@ impl ScriptedNetwork {
             moment: 0,
             later: VecDeque::new(alloc),
             moments: Log::new(),
+            made: Log::new(),
+            closed: Log::new(),
+            closings: 0,
             backends: VecDeque::new(alloc),
             connected: Vec::new(alloc),
             watched: Vec::new(alloc),
@@ -143,6 +149,11 @@ impl ScriptedNetwork {
         }
     }
 
+    /// How many streams were closed, of clients and of backends.
+    pub fn closings(&self) -> u64 {
+        self.closings
+    }
+
     /// The connections that were told to have broken, in order.
     pub fn broken(&self) -> &[ConnId] {
         self.broken.as_slice()
@@ -155,9 +166,9 @@ fn copied(alloc: Global, text: Option<&str>) -> Option<String> {
 }
 
 impl Network<Told<MemoryStream>> for ScriptedNetwork {
-    ghost use Rattle.std.specs.Prelude.{map};
+    ghost use Rattle.memory_ends.specs.Networks.{network_value};
 
-    ghost told = { λ n. map (λ x. x.0) n.moments.items };
+    ghost value = { λ n. network_value n.moments.items n.made.items n.closed.items };
 
     fn moment(&mut self) -> u64 {
         let moment = self.moment;
@@ -169,11 +180,18 @@ impl Network<Told<MemoryStream>> for ScriptedNetwork {
     }
 
     fn connect(&mut self, address: SocketAddr, _length: usize) -> Told<MemoryStream> {
+        self.made = self.made.and(&address, &());
         let _ = self.connected.push(address);
         match self.backends.pop_front() {
-            Some(stream) => Told::new(stream),
-            None => Told::new(MemoryStream::refused()),
+            Some(stream) => Told::new(stream, Some(address)),
+            None => Told::new(MemoryStream::refused(), Some(address)),
         }
+    }
+
+    fn close(&mut self, wire: Told<MemoryStream>) {
+        self.closed = self.closed.and(&wire, &());
+        self.closings = self.closings.saturating_add(1);
+        drop(wire);
     }
 
     fn watch(&mut self, wire: &mut Told<MemoryStream>, token: usize, writes: bool) -> bool {

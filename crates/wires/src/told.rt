@@ -7,6 +7,7 @@ use crate::wire::{PIECE, Wire};
 use http_server::Log;
 use std::io::{self, ErrorKind, Read, Write};
 use std::marker::Model;
+use std::net::SocketAddr;
 
 /// A stream whose reads and writes do not wait: where they would have to, they fail by `WouldBlock`.
 pub trait Stream: Read + Write {
@@ -19,6 +20,7 @@ pub trait Stream: Read + Write {
 #[derive(Drop)]
 pub struct Told<S> {
     stream: S,
+    peer: Option<SocketAddr>,
     has_ended: bool,
     may_read: bool,
     may_write: bool,
@@ -36,14 +38,16 @@ impl<S> Model for Told<S> {
 
     ghost Value = { ToldValue };
 
-    ghost view = { λ t. told_value t.reads.items t.writes.items t.has_ended t.may_read t.may_write t.watched t.reported.items };
+    ghost view = { λ t. told_value t.peer t.reads.items t.writes.items t.has_ended t.may_read t.may_write t.watched t.reported.items };
 
     ghost invariant = { λ t. KeepsStop t.may_stop t.reported.items };
 }
 
 impl<S: Stream> Told<S> {
-    /// A stream to which nothing was done yet: it may be written, and is not known to have bytes.
-    pub fn new(stream: S) -> Told<S>
+    /// A stream that was connected to that address, or accepted, and to which nothing was done yet: it may be written,
+    /// and is not known to have bytes.
+    pub fn new(stream: S, peer: Option<SocketAddr>) -> Told<S>
+        ensures peer { ⟦<Told<S> as Wire>⟧.peer result ≡ peer }
         ensures given { ⟦<Told<S> as Wire>⟧.given result ≡ [] }
         ensures got { ⟦<Told<S> as Wire>⟧.got result ≡ [] }
         ensures ended { ⟦<Told<S> as Wire>⟧.ended result ≡ false }
@@ -54,6 +58,7 @@ impl<S: Stream> Told<S> {
     {
         Told {
             stream,
+            peer,
             has_ended: false,
             may_read: false,
             may_write: true,
@@ -91,6 +96,8 @@ impl<S> Told<S> {
 }
 
 impl<S: Stream> Wire for Told<S> {
+    ghost peer = { λ t. t.peer };
+
     ghost given = { λ t. t.given };
 
     ghost got = { λ t. t.got };

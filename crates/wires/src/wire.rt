@@ -1,5 +1,6 @@
 ghost use Rattle.std.specs.Prelude.{◌≡◌, ◌||◌, ◌++◌, ◌∷◌, [], Bool, ℕ, List, Option};
 ghost use Rattle.wires.specs.Wires.{Ends, Gives, Takes, has_stop, is_to_read, reads_after, writes_after};
+ghost use Rattle.std.specs.declared.net.socket_addr.SocketAddr.{SocketAddr};
 ghost use Rattle.wires.specs.declared.ready.Ready.{Ready};
 
 use crate::got::{Got, Sent};
@@ -12,6 +13,9 @@ pub const PIECE: usize = 4096;
 /// A stream whose reads and writes do not wait. It knows what may be done: a report sets that, and what would have had
 /// to wait clears it.
 pub trait Wire {
+    // for proofs: the address that it was connected to; None of one that was accepted
+    ghost peer: { Self → Option SocketAddr };
+
     // for proofs: all the bytes that were read from it, and all that were written to it
     ghost given: { Self → List ℕ };
 
@@ -38,7 +42,8 @@ pub trait Wire {
         ensures reads { reads self.new ≡ (reads self.old || is_to_read ready) }
         ensures writes { writes self.new ≡ (writes self.old || ready.writable) }
         ensures watched { watched self.new ≡ watched self.old }
-        ensures reported { reported self.new ≡ reported self.old ++ ready ∷ [] };
+        ensures reported { reported self.new ≡ reported self.old ++ ready ∷ [] }
+        ensures peer { peer self.new ≡ peer self.old };
 
     /// Whether a read may bring something.
     fn may_read(&self) -> bool
@@ -60,7 +65,8 @@ pub trait Wire {
         ensures reads { reads self.new ≡ reads_after (has_stop (reported self.old)) (reads self.old) result }
         ensures writes { writes self.new ≡ writes self.old }
         ensures watched { watched self.new ≡ watched self.old }
-        ensures reported { reported self.new ≡ reported self.old };
+        ensures reported { reported self.new ≡ reported self.old }
+        ensures peer { peer self.new ≡ peer self.old };
 
     /// Writes once of what waits, from its first byte on.
     fn write(&mut self, outbox: &Outbox) -> Sent
@@ -70,7 +76,8 @@ pub trait Wire {
         ensures reads { reads self.new ≡ reads self.old }
         ensures writes { writes self.new ≡ writes_after (writes self.old) result }
         ensures watched { watched self.new ≡ watched self.old }
-        ensures reported { reported self.new ≡ reported self.old };
+        ensures reported { reported self.new ≡ reported self.old }
+        ensures peer { peer self.new ≡ peer self.old };
 
     /// Ends its sending side: the peer reads what was written before, and then the end.
     fn shut(&mut self)
@@ -80,5 +87,6 @@ pub trait Wire {
         ensures reads { reads self.new ≡ reads self.old }
         ensures writes { writes self.new ≡ writes self.old }
         ensures watched { watched self.new ≡ watched self.old }
-        ensures reported { reported self.new ≡ reported self.old };
+        ensures reported { reported self.new ≡ reported self.old }
+        ensures peer { peer self.new ≡ peer self.old };
 }

@@ -151,7 +151,7 @@ within_limit : (id : CallId) (a : ArrivedCall) (os others : List Occurrence) →
 within_limit id a os others same a_is = grind (arith, nat_tests, outs_limit, call_within)
 
 -- where this was lived
-module _ (v : CoreValue) (h : History) (os : List Occurrence) (conns : HasConns v h.opened h.events) (lived : List Placed) (same : occurrences (by_events lived) ≡ os) (l : Lives v h lived) where
+module _ (v : CoreValue) (h : History) (occurred : List Placed) (conns : HasConns v h.opened h.events) (lived : List Placed) (same : by_events lived ≡ occurred) (l : Lives v h lived) where
   records_kept : (id : CallId) (r : CallRecord) → (shown v).recorded id ≡ Some r → (is_lawful r ≡ true) × (is_decided r ≡ false)
   records_kept id r is =
       let c = v.conns id.conn in
@@ -160,8 +160,9 @@ module _ (v : CoreValue) (h : History) (os : List Occurrence) (conns : HasConns 
   outs_kept : (id : CallId) → (shown v).outs id ≡ outs id (marked (occurrences lived))
   outs_kept id = outs_shown v.now v.conns v.opened h.taken h.handed v.waiting (occurrences lived) l.stands id.conn id.request
 
-  outs_few : (id : CallId) (a : ArrivedCall) → call id (marked os) ≡ Some a → (shown v).outs id ≤ a.plan.limit
-  outs_few id a a_is = grind (arith, nat_tests, within_limit, events_occur, outs_kept)
+  outs_few : (id : CallId) (a : ArrivedCall) → call id (marked (occurrences occurred)) ≡ Some a → (shown v).outs id ≤ a.plan.limit
+  outs_few id a a_is =
+      subst (λ (n : ℕ). n ≤ a.plan.limit) (sym (outs_kept id)) (within_limit id a (occurrences lived) (occurrences occurred) (sym (events_occur lived) ∙ ap occurrences same) a_is)
 
   whole_open : (c : ℕ) → is_whole c (shown v) ≡ true → (is_open_value v.opened c (v.conns c) ≡ true) × ((v.conns c).broken ≡ false)
   whole_open c whole = by (is_open_value v.opened c (v.conns c)) refl (v.conns c).broken refl
@@ -187,7 +188,7 @@ module _ (v : CoreValue) (h : History) (os : List Occurrence) (conns : HasConns 
       by true a_is true b_is = rw (a_is, b_is) refl
       by true a_is false b_is = absurd (let clash : true ≡ false = rw (a_is, b_is) at gone in cc)
 
-  known_lived : IsKnown (shown v) h os
+  known_lived : IsKnown (shown v) h occurred
   known_lived = record {
     lived = lived;
     same = same;
@@ -212,5 +213,5 @@ module _ (v : CoreValue) (h : History) (os : List Occurrence) (conns : HasConns 
   }
 
 -- the law
-pub known : (v : CoreValue) (h : History) (occurred : List Placed) → Served v h → Occurs v.plans h.opened h.events occurred → IsKnown (shown v) h (occurrences occurred)
-known v h occurred s o = let x = s.stands occurred o in known_lived v h (occurrences occurred) s.conns x.0 (ap occurrences x.1) x.2
+pub known : (v : CoreValue) (h : History) (occurred : List Placed) → Served v h → Occurs v.plans h.opened h.events occurred → IsKnown (shown v) h occurred
+known v h occurred s o = let x = s.stands occurred o in known_lived v h occurred s.conns x.0 x.1 x.2

@@ -41,7 +41,7 @@ first_lives plans = subst (λ x. core.Lives x no_history []) (sym (first_core pl
 
 -- ---- what is known of it
 
-pub known : (v : GatewayValue) (h : History) (occurred : List Placed) → Served v h → Occurs v.plans h.opened h.events occurred → IsKnown (shown v) h (occurrences occurred)
+pub known : (v : GatewayValue) (h : History) (occurred : List Placed) → Served v h → Occurs v.plans h.opened h.events occurred → IsKnown (shown v) h occurred
 known v h occurred s o = core_known.known (core_of v) h occurred s o
 
 -- one that was not opened did not break

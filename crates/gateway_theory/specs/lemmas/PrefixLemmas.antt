@@ -155,12 +155,12 @@ pub without_shut : (c : ℕ) (os : List Occurrence) → is_shut_in c (without_br
 without_shut c [] e = e
 without_shut c (o ∷ os) e = grind (arith, without_shut c os)
 
-module _ (s : Shown) (history : History) (os : List Occurrence) (known : IsKnown s history os) (c : ℕ) (there : s.is_open c ≡ true) where
-  pub taken_begin : IsPrefixOf (history.taken c) (queued_entries c (marked os))
-  taken_begin = subst (λ us. IsPrefixOf (history.taken c) (queued_entries c (marked us))) (sym (events_occur known.lived) ∙ known.same)
+module _ (s : Shown) (history : History) (occurred : List Placed) (known : IsKnown s history occurred) (c : ℕ) (there : s.is_open c ≡ true) where
+  pub taken_begin : IsPrefixOf (history.taken c) (queued_entries c (marked (occurrences occurred)))
+  taken_begin = subst (λ us. IsPrefixOf (history.taken c) (queued_entries c (marked us))) (sym (events_occur known.lived) ∙ ap occurrences known.same)
       (prefix-trans (history.taken c) (queued_entries c (marked (occurrences known.lived))) (queued_entries c (marked (without_breaks (occurrences known.lived))))
       (s.untaken c, sym (known.queue_is c there)) (prefix_queue c (occurrences known.lived)))
 
-  pub bytes_begin : IsPrefixOf (bytes_of (history.taken c)) (queued c (marked os))
-  bytes_begin = prefix-flat_map (λ (reply : ReplyBytes). reply.bytes) (map answer_of (history.taken c)) (map answer_of (queued_entries c (marked os)))
-      (prefix-map answer_of (history.taken c) (queued_entries c (marked os)) taken_begin)
+  pub bytes_begin : IsPrefixOf (bytes_of (history.taken c)) (queued c (marked (occurrences occurred)))
+  bytes_begin = prefix-flat_map (λ (reply : ReplyBytes). reply.bytes) (map answer_of (history.taken c)) (map answer_of (queued_entries c (marked (occurrences occurred))))
+      (prefix-map answer_of (history.taken c) (queued_entries c (marked (occurrences occurred))) taken_begin)

@@ -1,4 +1,5 @@
-use Rattle.branch_asking.proofs.Words.{sym, ◌∙◌}
+use Rattle.branch_asking.proofs.Words.{inr, refl, sym, ◌∙◌}
+use Rattle.branch_asking.proofs.StreamLemmas.{over_another, over_first}
 use Rattle.branch_asking.proofs.AddressLemmas.{peers_first, peers_noted}
 use Rattle.branch_asking.proofs.BegunLemmas.{asks_again, asks_first, begun_connects, noted_untouched}
 use Rattle.branch_asking.proofs.asking.Asking.connect.Goals as goal
@@ -30,3 +31,23 @@ returns-in_default-connect-clause-on g c =
     let i = c.self.inside in
     rw (← c.self.view_is)
     (asks_first i.framing i.job i.addresses c.next.new.self i.attempt c.connect.new.self i.end i.tried.items c.in-Some.ensures.found (c.connect.ensures.first c.in_default-connect.is) (c.is_connected.ensures.untouched c.if-is_connected.false))
+
+pub returns-in-Some-connect-clause-streams : goal.returns-in-Some-connect-clause-streams
+returns-in-Some-connect-clause-streams g c =
+    let i = c.self.inside in
+    rw (← c.self.view_is)
+    (inr (
+      c.in-Some.address,
+      over_another i.framing i.job i.addresses c.next.new.self i.attempt c.connect.new.self i.end i.tried.items c.connect-stream.result c.in-Some.address _ _ _ c.connect-stream.ensures.fresh c.connect.ensures.fresh
+          c.connect-stream.ensures.made c.and-self-inside.result.items c.in-Some-connect.before _ c.and-self-inside.ensures c.in-Some-connect.ensures.before c.into_wire.ensures c.close.ensures.closed,
+    ))
+
+pub returns-in_default-connect-clause-streams : goal.returns-in_default-connect-clause-streams
+returns-in_default-connect-clause-streams g c =
+    let i = c.self.inside in
+    rw (← c.self.view_is)
+    (inr (
+      c.in-Some.address,
+      over_first i.framing i.job i.addresses c.next.new.self i.attempt c.connect.new.self i.end i.tried.items c.connect-stream.result c.in-Some.address _ _ _ c.connect-stream.ensures.fresh c.connect.ensures.fresh
+          c.connect-stream.ensures.made (c.connect.ensures.first c.in_default-connect.is) refl,
+    ))

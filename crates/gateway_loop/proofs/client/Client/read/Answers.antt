@@ -1,7 +1,7 @@
 use Rattle.gateway_loop.proofs.Words.{◌∙◌, refl, take, HangUp, Piece}
 use Rattle.gateway_loop.proofs.GrowLemmas.{grows_by, no_more}
 use Rattle.gateway_loop.proofs.LeadLemmas.{hang_up_elsewhere, piece_elsewhere}
-use Rattle.gateway_loop.proofs.StepLemmas.{fits_dropped, fits_hang_up, fits_piece, fits_still, steps_event, steps_fit}
+use Rattle.gateway_loop.proofs.StepLemmas.{fits_dropped, fits_hang_up, fits_over, fits_piece, fits_still, steps_event, steps_fit}
 use Rattle.gateway_loop.proofs.client.Client.read.Goals as goal
 
 pub returns-else-self-2-clause-steps : goal.returns-else-self-2-clause-steps
@@ -12,7 +12,7 @@ returns-else-self-2-clause-steps g c =
     rw (← c.self.view_is)
     (steps_event c.args.core.now c.take_in.new.core _ _ (Piece i.conn bytes) c.take_in.ensures.plans refl c.take_in.ensures.stands
     (fits_piece i.conn c.in-Bytes.count i.lingers (g.W.Wire.ended i.wire) _ (g.W.Wire.given i.wire) (g.W.Wire.got i.wire) i.outbox _ _ c.read.new.piece c.if-self-2.false e.given.2 e.got e.ended
-    (c.self.invariant ∙ c.if-self.false)) (λ d off. piece_elsewhere i.conn bytes d off) refl refl refl refl)
+    (c.self.invariant.0 ∙ c.if-self.false)) (λ d off. piece_elsewhere i.conn bytes d off) refl refl refl refl)
 
 pub returns-then-self-2-clause-steps : goal.returns-then-self-2-clause-steps
 returns-then-self-2-clause-steps g c =
@@ -29,6 +29,13 @@ returns-else-self-3-clause-steps g c =
     (steps_event c.args.core.now c.hang_up.new.core _ _ (HangUp i.conn) c.hang_up.ensures.plans refl c.hang_up.ensures.stands
     (fits_hang_up i.conn i.lingers (g.W.Wire.ended i.wire) _ (g.W.Wire.given i.wire) (g.W.Wire.got i.wire) i.outbox _ _ c.if-self-3.false e.given e.got e.ended)
     (λ d off. hang_up_elsewhere i.conn d off) refl refl refl refl)
+
+pub returns-then-self-3-clause-steps : goal.returns-then-self-3-clause-steps
+returns-then-self-3-clause-steps g c =
+    let i = c.self.inside in
+    let e = c.in-End.ensures in
+    rw (← c.self.view_is)
+    (steps_fit _ _ _ (fits_over i.conn i.lingers (g.W.Wire.ended i.wire) _ (g.W.Wire.given i.wire) (g.W.Wire.got i.wire) i.outbox _ _ c.if-self-3.true e.given e.got e.ended))
 
 pub returns-in-Nothing-clause-steps : goal.returns-in-Nothing-clause-steps
 returns-in-Nothing-clause-steps g c =

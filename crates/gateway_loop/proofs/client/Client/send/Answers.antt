@@ -64,16 +64,16 @@ returns-in-Failed-clause-grows g c =
     rw (c.tell-in-Failed.ensures.same, ← c.self.view_is) (grows_by _ _ _ _ _ _ _ _ _ _ _ _ _ (no_more _ _ e.given) (no_more _ _ e.got) e.reported)
 
 pub invariant_of-self : goal.invariant_of-self
-invariant_of-self g c = c.in-Bytes.ensures.ended ∙ c.self.invariant
+invariant_of-self g c = (c.in-Bytes.ensures.ended ∙ c.self.invariant.0, c.in-Bytes.ensures.peer ∙ c.self.invariant.1)
 
 pub invariant_of-self-else-is_empty-2 : goal.invariant_of-self-else-is_empty-2
-invariant_of-self-else-is_empty-2 g c = c.in-Bytes.ensures.ended ∙ c.self.invariant
+invariant_of-self-else-is_empty-2 g c = (c.in-Bytes.ensures.ended ∙ c.self.invariant.0, c.in-Bytes.ensures.peer ∙ c.self.invariant.1)
 
 pub invariant_of-self-in-Failed : goal.invariant_of-self-in-Failed
-invariant_of-self-in-Failed g c = c.in-Failed.ensures.ended ∙ c.self.invariant
+invariant_of-self-in-Failed g c = (c.in-Failed.ensures.ended ∙ c.self.invariant.0, c.in-Failed.ensures.peer ∙ c.self.invariant.1)
 
 pub invariant_of-self-in-Interrupted : goal.invariant_of-self-in-Interrupted
-invariant_of-self-in-Interrupted g c = c.in-Interrupted.ensures.ended ∙ c.self.invariant
+invariant_of-self-in-Interrupted g c = (c.in-Interrupted.ensures.ended ∙ c.self.invariant.0, c.in-Interrupted.ensures.peer ∙ c.self.invariant.1)
 
 pub invariant_of-self-in-Nothing : goal.invariant_of-self-in-Nothing
-invariant_of-self-in-Nothing g c = c.in-Nothing.ensures.ended ∙ c.self.invariant
+invariant_of-self-in-Nothing g c = (c.in-Nothing.ensures.ended ∙ c.self.invariant.0, c.in-Nothing.ensures.peer ∙ c.self.invariant.1)

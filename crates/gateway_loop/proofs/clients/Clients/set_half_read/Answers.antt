@@ -4,7 +4,7 @@ use Rattle.gateway_loop.proofs.clients.Clients.set_half_read.Goals as goal
 use Rattle.gateway_loop.proofs.clients.Clients.set_half_read.Goals.{in-Some, in_default}
 
 pub invariant_of-self : goal.invariant_of-self
-invariant_of-self g c u = elim c.match-get_mut.branch [
-  | in-Some w ↦ rw w.self-inside-is (rw (set_same _ _ _ (sym w.in-Some.ensures.value)) (c.self.invariant u))
-  | in_default w ↦ rw w.self-inside-is (c.self.invariant u)
+invariant_of-self g c = elim c.match-get_mut.branch [
+  | in-Some w ↦ rw w.self-inside-is (rw (set_same _ _ _ (sym w.in-Some.ensures.value)) c.self.invariant)
+  | in_default w ↦ rw w.self-inside-is c.self.invariant
 ]

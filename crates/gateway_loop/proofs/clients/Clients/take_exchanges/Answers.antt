@@ -4,7 +4,7 @@ use Rattle.gateway_loop.proofs.clients.Clients.take_exchanges.Goals as goal
 use Rattle.gateway_loop.proofs.clients.Clients.take_exchanges.Goals.{in-Some, in-None}
 
 pub invariant_of-self : goal.invariant_of-self
-invariant_of-self g c u = elim c.match-get_mut.branch [
-  | in-Some w ↦ rw w.self-inside-is (rw (set_same _ _ _ (sym w.in-Some.ensures.value)) (c.self.invariant u))
-  | in-None w ↦ rw w.self-inside-is (c.self.invariant u)
+invariant_of-self g c = elim c.match-get_mut.branch [
+  | in-Some w ↦ rw w.self-inside-is (rw (set_same _ _ _ (sym w.in-Some.ensures.value)) c.self.invariant)
+  | in-None w ↦ rw w.self-inside-is c.self.invariant
 ]

@@ -1,7 +1,10 @@
-use Rattle.gateway_loop.proofs.Words.{Goes, TellsLoop}
+use Rattle.gateway_loop.proofs.Words.{◌≡◌, ◌+◌, ℕ, length, Admits}
 use Rattle.gateway_loop.proofs.event_loop.EventLoop.admit_all.Given as goal
 
--- it only went on
+-- so many were dealt, and the others are left
 abbrev pub invariant-loop-dealt : goal.invariant-loop-dealt
 invariant-loop-dealt g l =
-    Goes l.fn.self l.self × TellsLoop (g.N.Network.told l.fn.net) (g.N.Network.told l.net) l.fn.self l.self
+    (done : ℕ) × Admits done (g.N.Network.value l.fn.net) (g.N.Network.value l.net) l.fn.self l.self × (length l.fn.streams.items ≡ done + length l.streams.items)
+
+abbrev pub decreases-loop-dealt : goal.decreases-loop-dealt
+decreases-loop-dealt g l = length l.streams.items

@@ -1,5 +1,11 @@
-use Rattle.gateway_loop.proofs.AskLemmas.{goes_on, goes_then}
+use Rattle.gateway_loop.proofs.Words.{◌∙◌, with_dealt}
 use Rattle.gateway_loop.proofs.event_loop.EventLoop.drain.Goals as goal
 
 pub returns-clause-continues : goal.returns-clause-continues
-returns-clause-continues g c = goes_on _ _ (rw (← c.self.view_is) (goes_then _ _ _ c.drain.ensures.goes c.look_at_all.ensures.goes))
+returns-clause-continues g c = rw (← c.self.view_is) (c.look_at_all.ensures.goes.on _ c.drain.ensures.continues)
+
+pub returns-clause-accounts : goal.returns-clause-accounts
+returns-clause-accounts g c = rw (← c.self.view_is) (λ u f. c.look_at_all.ensures.goes.accounts (with_dealt 0 u) (c.drain.ensures.accounts _ u f))
+
+pub returns-clause-drained : goal.returns-clause-drained
+returns-clause-drained g c = c.look_at_all.ensures.goes.drained ∙ c.drain.ensures.drained

@@ -1,9 +1,5 @@
-use Rattle.gateway_loop.proofs.Words.{refl}
 use Rattle.gateway_loop.proofs.AskLemmas.{goes_then}
 use Rattle.gateway_loop.proofs.event_loop.EventLoop.give_up.Goals as goal
 
-pub returns-clause-goes : goal.returns-clause-goes
-returns-clause-goes g c = rw (← c.self.view_is) (goes_then _ _ _ c.lose.ensures.goes c.finish-ended.ensures.goes)
-
-pub returns-clause-told : goal.returns-clause-told
-returns-clause-told g c = rw (c.finish-ended.ensures.told, c.lose.ensures.told, c.self.view_is) refl
+pub returns : goal.returns
+returns g c = record { goes = rw (← c.self.view_is) (goes_then _ _ _ (c.lose.ensures.goes _) c.finish-ended.ensures.goes) }

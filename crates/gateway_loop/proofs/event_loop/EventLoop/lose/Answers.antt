@@ -1,8 +1,5 @@
 use Rattle.gateway_loop.proofs.AskLemmas.{goes_then}
 use Rattle.gateway_loop.proofs.event_loop.EventLoop.lose.Goals as goal
 
-pub returns-clause-goes : goal.returns-clause-goes
-returns-clause-goes g c = rw (← c.self.view_is) (goes_then _ _ _ c.lose.ensures.goes c.end.ensures.goes)
-
-pub returns-clause-told : goal.returns-clause-told
-returns-clause-told g c = λ u is. c.end.ensures.told u (rw (c.lose.ensures.told, c.self.view_is) is)
+pub returns : goal.returns
+returns g c = record { goes = rw (← c.self.view_is) (goes_then _ _ _ (c.lose.ensures.goes _) c.end.ensures.goes) }

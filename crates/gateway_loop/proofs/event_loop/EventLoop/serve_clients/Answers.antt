@@ -4,6 +4,6 @@ use Rattle.gateway_loop.proofs.event_loop.EventLoop.serve_clients.Goals.{then-no
 
 pub loop-place-preserved : goal.loop-place-preserved
 loop-place-preserved g c = elim c.if-not-rests.branch [
-  | then-not-rests w ↦ rw (w.self-is, w.net-is) ((goes_then _ _ _ c.loop-place.invariant.0 w.serve_client.ensures.goes, λ u is. w.serve_client.ensures.told u (c.loop-place.invariant.1 u is)))
+  | then-not-rests w ↦ rw (w.self-is, w.net-is) (goes_then _ _ _ c.loop-place.invariant w.serve_client.ensures.goes)
   | else-not-rests w ↦ rw (w.self-is, w.net-is) c.loop-place.invariant
 ]

@@ -4,6 +4,6 @@ use Rattle.gateway_loop.proofs.event_loop.EventLoop.serve_exchanges.Goals.{then-
 
 pub loop-place-preserved : goal.loop-place-preserved
 loop-place-preserved g c = elim c.if-not-rests.branch [
-  | then-not-rests w ↦ rw (w.self-is, w.net-is) ((goes_then _ _ _ c.loop-place.invariant.0 w.serve_exchange.ensures.goes, λ u is. w.serve_exchange.ensures.told u (c.loop-place.invariant.1 u is)))
+  | then-not-rests w ↦ rw (w.self-is, w.net-is) (goes_then _ _ _ c.loop-place.invariant w.serve_exchange.ensures.goes)
   | else-not-rests w ↦ rw (w.self-is, w.net-is) c.loop-place.invariant
 ]

@@ -5,13 +5,10 @@ pub loop-looked_up-preserved : goal.loop-looked_up-preserved
 loop-looked_up-preserved g c = c.loop-place.invariant
 
 pub loop-place-init : goal.loop-place-init
-loop-place-init g c = (rw (c.stop_waits.ensures, c.self.view_is) c.loop-looked_up.invariant.0, λ u is. rw (c.stop_waits.ensures, c.self.view_is) (c.loop-looked_up.invariant.1 u is))
+loop-place-init g c = rw (c.stop_waits.ensures, c.self.view_is) c.loop-looked_up.invariant
 
 pub loop-place-preserved : goal.loop-place-preserved
-loop-place-preserved g c = (goes_then _ _ _ c.loop-place.invariant.0 c.go_to.ensures.goes, λ u is. c.go_to.ensures.told u (c.loop-place.invariant.1 u is))
+loop-place-preserved g c = goes_then _ _ _ c.loop-place.invariant c.go_to.ensures.goes
 
-pub returns-clause-goes : goal.returns-clause-goes
-returns-clause-goes g c = c.loop-looked_up.invariant.0
-
-pub returns-clause-told : goal.returns-clause-told
-returns-clause-told g c = c.loop-looked_up.invariant.1
+pub returns : goal.returns
+returns g c = record { goes = c.loop-looked_up.invariant }

@@ -4,4 +4,4 @@ use Rattle.gateway_loop.proofs.event_loop.EventLoop.tell_waiting.Given as goal
 -- nothing changed, and no moment was told
 abbrev pub invariant-loop-place : goal.invariant-loop-place
 invariant-loop-place g l =
-    (l.self ≡ l.fn.self) × (g.N.Network.told l.net ≡ g.N.Network.told l.fn.net)
+    (l.self ≡ l.fn.self) × (g.N.Network.value l.net ≡ g.N.Network.value l.fn.net)

@@ -2,5 +2,4 @@ use Rattle.gateway_loop.proofs.AskLemmas.{goes_then}
 use Rattle.gateway_loop.proofs.event_loop.EventLoop.write_noted.Goals as goal
 
 pub loop-client-preserved : goal.loop-client-preserved
-loop-client-preserved g c =
-    (goes_then _ _ _ c.loop-client.invariant.0 (rw c.next_noted.ensures at c.write_client.ensures.goes), λ u is. c.write_client.ensures.told u (rw c.next_noted.ensures (c.loop-client.invariant.1 u is)))
+loop-client-preserved g c = goes_then _ _ _ c.loop-client.invariant (rw c.next_noted.ensures at c.write_client.ensures.goes)

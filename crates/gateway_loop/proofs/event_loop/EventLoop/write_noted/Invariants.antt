@@ -1,7 +1,7 @@
-use Rattle.gateway_loop.proofs.Words.{Goes, TellsLoop}
+use Rattle.gateway_loop.proofs.Words.{Goes}
 use Rattle.gateway_loop.proofs.event_loop.EventLoop.write_noted.Given as goal
 
 -- it only went on
 abbrev pub invariant-loop-client : goal.invariant-loop-client
 invariant-loop-client g l =
-    Goes l.fn.self l.self × TellsLoop (g.N.Network.told l.fn.net) (g.N.Network.told l.net) l.fn.self l.self
+    Goes (g.N.Network.value l.fn.net) (g.N.Network.value l.net) l.fn.self l.self

@@ -1,16 +1,16 @@
-use Rattle.gateway_loop.proofs.Words.{refl, whole_loop}
-use Rattle.gateway_loop.proofs.AskLemmas.{goes_side, keeps_asking}
+use Rattle.gateway_loop.proofs.Words.{[], refl, whole_loop}
+use Rattle.gateway_loop.proofs.AskLemmas.{drains_so, keeps_asking}
 use Rattle.gateway_loop.proofs.exchanges.Exchanges.drain.Goals as goal
 
-pub returns-clause-goes : goal.returns-clause-goes
-returns-clause-goes g c = rw (← c.self.view_is) (goes_side _ _ refl c.drain.ensures.goes refl refl)
+pub returns-clause-continues : goal.returns-clause-continues
+returns-clause-continues g c = rw (← c.self.view_is) (drains_so c.self.inside.framing c.self.inside.asking.slots c.self.inside.ended.items c.self.inside.closing _ _ c.drain.ensures.continues c.drain.ensures.still).0
 
-pub returns-clause-told : goal.returns-clause-told
-returns-clause-told g c = rw (← c.self.view_is) c.drain.ensures.told
+pub returns-clause-accounts : goal.returns-clause-accounts
+returns-clause-accounts g c = rw (← c.self.view_is) (drains_so c.self.inside.framing c.self.inside.asking.slots c.self.inside.ended.items c.self.inside.closing _ _ c.drain.ensures.continues c.drain.ensures.still).1
 
 pub invariant_of-self : goal.invariant_of-self
 invariant_of-self g c =
     let i = c.self.inside in (
-      keeps_asking (whole_loop i.framing i.clients i.asking.slots i.ended.items) (whole_loop i.framing c.drain.new.self i.asking.slots i.ended.items) refl c.drain.ensures.hands refl refl c.self.invariant.0,
+      keeps_asking (whole_loop i.framing i.clients i.asking.slots i.ended.items []) (whole_loop i.framing c.drain.new.self i.asking.slots i.ended.items []) refl c.drain.ensures.hands refl refl c.self.invariant.0,
       c.self.invariant.1,
     )

@@ -1,4 +1,7 @@
+use Rattle.gateway_loop.proofs.AskLemmas.{fair_closing}
 use Rattle.gateway_loop.proofs.exchanges.Exchanges.explained_law.Goals as goal
 
 pub returns : goal.returns
-returns g c = rw (← c.self.view_is) record { explained = c.explained_law.ensures; asks = c.self.invariant.0 }
+returns g c =
+    let i = c.self.inside in
+    rw (← c.self.view_is) record { explained = c.explained_law.ensures; asks = fair_closing i.framing i.clients i.asking.slots i.ended.items i.closing c.self.invariant.0 }

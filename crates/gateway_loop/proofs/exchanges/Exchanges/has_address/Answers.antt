@@ -7,7 +7,7 @@ invariant_of-self-2 g c =
     let put = c.insert_reserved-place.ensures in
     keeps_back c.self.inside.framing c.self.inside.clients c.self.inside.ended.items c.try_remove.ensures.updates c.in-Some.ensures.key_is_next put.key put.updates (sym c.in-Some.ensures.value) c.has_address-has_address.ensures.job c.has_address-has_address.ensures.framing c.begun_law.ensures.begun c.begun_law.ensures.untouched c.self.invariant
 
-pub returns-clause-goes : goal.returns-clause-goes
-returns-clause-goes g c =
+pub returns : goal.returns
+returns g c =
     let put = c.insert_reserved-place.ensures in
-    rw (← c.self.view_is) (goes_back c.self.inside.framing c.self.inside.clients c.self.inside.ended.items c.try_remove.ensures.updates c.in-Some.ensures.key_is_next put.key put.updates (sym c.in-Some.ensures.value) c.has_address-has_address.ensures.on)
+    record { goes = rw (← c.self.view_is) (λ a. goes_back c.self.inside.framing c.self.inside.clients c.self.inside.ended.items c.self.inside.closing c.try_remove.ensures.updates c.in-Some.ensures.key_is_next put.key put.updates (sym c.in-Some.ensures.value) c.has_address-has_address.ensures.on c.has_address-has_address.ensures.streams a) }

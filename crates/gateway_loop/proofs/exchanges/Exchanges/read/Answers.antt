@@ -1,16 +1,13 @@
-use Rattle.gateway_loop.proofs.Words.{refl, whole_loop}
-use Rattle.gateway_loop.proofs.AskLemmas.{goes_side, keeps_asking}
+use Rattle.gateway_loop.proofs.Words.{[], refl, whole_loop}
+use Rattle.gateway_loop.proofs.AskLemmas.{goes_still, keeps_asking}
 use Rattle.gateway_loop.proofs.exchanges.Exchanges.read.Goals as goal
 
-pub returns-clause-goes : goal.returns-clause-goes
-returns-clause-goes g c = rw (← c.self.view_is) (goes_side _ _ refl c.read.ensures.goes refl refl)
-
-pub returns-clause-told : goal.returns-clause-told
-returns-clause-told g c = rw (← c.self.view_is) c.read.ensures.told
+pub returns : goal.returns
+returns g c = record { goes = rw (← c.self.view_is) (λ a. goes_still c.self.inside.framing c.self.inside.asking.slots c.self.inside.ended.items c.self.inside.closing _ _ c.read.ensures.goes c.read.ensures.still) }
 
 pub invariant_of-self : goal.invariant_of-self
 invariant_of-self g c =
     let i = c.self.inside in (
-      keeps_asking (whole_loop i.framing i.clients i.asking.slots i.ended.items) (whole_loop i.framing c.read.new.self i.asking.slots i.ended.items) refl c.read.ensures.hands refl refl c.self.invariant.0,
+      keeps_asking (whole_loop i.framing i.clients i.asking.slots i.ended.items []) (whole_loop i.framing c.read.new.self i.asking.slots i.ended.items []) refl c.read.ensures.hands refl refl c.self.invariant.0,
       c.self.invariant.1,
     )

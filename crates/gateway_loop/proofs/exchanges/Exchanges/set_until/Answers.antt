@@ -1,5 +1,5 @@
 use Rattle.gateway_loop.proofs.Words.{sym, ap, AskingState}
-use Rattle.gateway_loop.proofs.AskLemmas.{goes_back, keeps_back}
+use Rattle.gateway_loop.proofs.AskLemmas.{goes_back, keeps_back, same_streams}
 use Rattle.gateway_loop.proofs.exchanges.Exchanges.set_until.Goals as goal
 
 pub invariant_of-self-2 : goal.invariant_of-self-2
@@ -8,7 +8,7 @@ invariant_of-self-2 g c =
     keeps_back c.self.inside.framing c.self.inside.clients c.self.inside.ended.items c.try_remove.ensures.updates c.in-Some.ensures.key_is_next put.key put.updates (sym c.in-Some.ensures.value)
     (ap (λ (x : AskingState). x.job) c.set_until.ensures.noted) (ap (λ (x : AskingState). x.framing) c.set_until.ensures.noted) c.begun_law.ensures.begun c.begun_law.ensures.untouched c.self.invariant
 
-pub returns-clause-goes : goal.returns-clause-goes
-returns-clause-goes g c =
+pub returns : goal.returns
+returns g c =
     let put = c.insert_reserved-place.ensures in
-    rw (← c.self.view_is) (goes_back c.self.inside.framing c.self.inside.clients c.self.inside.ended.items c.try_remove.ensures.updates c.in-Some.ensures.key_is_next put.key put.updates (sym c.in-Some.ensures.value) c.set_until.ensures.on)
+    record { goes = rw (← c.self.view_is) (λ a. goes_back c.self.inside.framing c.self.inside.clients c.self.inside.ended.items c.self.inside.closing c.try_remove.ensures.updates c.in-Some.ensures.key_is_next put.key put.updates (sym c.in-Some.ensures.value) c.set_until.ensures.on (same_streams c.in-Some.asking c.set_until.new.self (ap (λ (x : AskingState). x.tried) c.set_until.ensures.noted) (ap (λ (x : AskingState). x.attempt.peer) c.set_until.ensures.noted)) a) }

@@ -1,0 +1,296 @@
+-- How each step changes what a loop's lists say of its streams.
+use Rattle.gateway_loop.proofs.Words.{◌≡◌, ℕ, ◌+◌, Bool, cond, List, [], ◌∷◌, ◌++◌, length, map, Option, None, Some, refl, sym, ap, ◌∙◌, subst, arith, append_assoc, append-nil, ⊎_elim, count_by, sum_by, option_map, slice_index_or, option_map_or, map-append, sum_by-append, sum_by-cons, Outcome, SocketAddr, AskingState, AskingValue, ClientValue, EndedValue, LoopValue, StreamValue, asked_for, ended_value, whole_loop, WholeLoop, Framing}
+use Rattle.gateway_loop.specs.Loop.{StartsLoop}
+use Rattle.std.proofs.lemmas.List.{length-append}
+use Rattle.loop_model.specs.Accounts.{Account, AccountsFor, NetworkValue, closed_client, closed_stream, count_dealt, count_left, count_made, first_account, stream_now, streams_before, with_dealt}
+use Rattle.loop_model.specs.Asking.{peers_of}
+use Rattle.loop_model.specs.Standing.{count_clients}
+use Rattle.loop_model.specs.Streams.{ClosedValue}
+use Rattle.branch_asking.specs.Streams.{Connects, GoesOver, HasStreamsOf}
+use Rattle.gateway_loop.specs.Clients.{HasCome, HasGone, IsStill, IsTold, IsTurnedAway, LetsGo, TakesIn}
+use Rattle.gateway_loop.specs.Closing.{ClosesFrom}
+use Rattle.gateway_loop.proofs.Places.{Put}
+use Rattle.gateway_loop.proofs.SumLemmas.{sum_map, sum_put}
+
+pub count_append : {A : Type 0} (p : A → Bool) (xs ys : List A) → count_by p (xs ++ ys) ≡ count_by p xs + count_by p ys
+count_append {A} p xs ys = sum_by-append (λ (x : A). cond (p x) 1 0) xs ys
+
+-- ---- clients
+
+count_mapped : (p : ClosedValue → Bool) (gone : List ClientValue) (x : ClientValue)
+    → count_by (λ (c : ClientValue). p (closed_client c)) (gone ++ x ∷ []) ≡ count_by (λ (c : ClientValue). p (closed_client c)) gone + count_by p (closed_client x ∷ [])
+count_mapped p gone x =
+    let more = count_append (λ (c : ClientValue). p (closed_client c)) gone (x ∷ []) in
+    let one : count_by (λ (c : ClientValue). p (closed_client c)) (x ∷ []) ≡ cond (p (closed_client x)) 1 0 + 0 = sum_by-cons (λ (c : ClientValue). cond (p (closed_client c)) 1 0) x [] in
+    let same : count_by p (closed_client x ∷ []) ≡ cond (p (closed_client x)) 1 0 + 0 = sum_by-cons (λ (c : ClosedValue). cond (p c) 1 0) (closed_client x) [] in
+    omega (arith, more, one, same)
+
+module _ (framing : Framing) (asking : List (Option AskingState)) (ended : List (AskingState × Option Outcome)) (closing : List ClosedValue) (l m : LoopValue) where
+  -- nobody came or went
+  pub still_accounts : (a : NetworkValue) → IsStill l m → (u : Account) → AccountsFor u a (whole_loop framing l asking ended closing) → AccountsFor u a (whole_loop framing m asking ended closing)
+  still_accounts a s u f = record {
+    told = f.told ∙ ap (λ (t : List ℕ). u.before.told ++ t) (sym s.told);
+    made = f.made;
+    closed = λ p.
+        let before = f.closed p in
+        let gone = ap (count_by (λ (c : ClientValue). p (closed_client c))) s.gone in
+        let away = ap (count_by p) s.unserved in
+        omega (arith, before, gone, away);
+    dealt =
+        let before = f.dealt in
+        let there = s.there in
+        let gone = ap (λ (g : List ClientValue). length g) s.gone in
+        let away = ap (λ (g : List ClosedValue). length g) s.unserved in
+        omega (arith, before, there, gone, away);
+  }
+
+  -- a moment was told
+  pub told_accounts : (a b : NetworkValue) → IsTold a b l m → (u : Account) → AccountsFor u a (whole_loop framing l asking ended closing) → AccountsFor u b (whole_loop framing m asking ended closing)
+  told_accounts a b s u f = record {
+    told = ap (λ (v : NetworkValue). v.told) s.net ∙ ap (λ (t : List ℕ). t ++ s.moment ∷ []) f.told ∙ append_assoc u.before.told l.told (s.moment ∷ []) ∙ ap (λ (t : List ℕ). u.before.told ++ t) (sym s.told);
+    made = λ p. ap (λ (v : NetworkValue). count_by p v.made) s.net ∙ f.made p;
+    closed = λ p.
+        let before = f.closed p in
+        let same = ap (λ (v : NetworkValue). count_by p v.closed) s.net in
+        let gone = ap (count_by (λ (c : ClientValue). p (closed_client c))) s.gone in
+        let away = ap (count_by p) s.unserved in
+        omega (arith, before, same, gone, away);
+    dealt =
+        let before = f.dealt in
+        let there = ap count_clients s.there in
+        let gone = ap (λ (g : List ClientValue). length g) s.gone in
+        let away = ap (λ (g : List ClosedValue). length g) s.unserved in
+        omega (arith, before, there, gone, away);
+  }
+
+  -- nobody was there to go
+  none_goes : (a b : NetworkValue) → m.told ≡ l.told → m.unserved ≡ l.unserved → (b ≡ a) × (m.gone ≡ l.gone) × (count_clients m.clients ≡ count_clients l.clients)
+      → (u : Account) → AccountsFor u a (whole_loop framing l asking ended closing) → AccountsFor u b (whole_loop framing m asking ended closing)
+  none_goes a b told unserved (net, gone, there) u f =
+      subst (λ (v : NetworkValue). AccountsFor u v (whole_loop framing m asking ended closing)) (sym net)
+      (still_accounts a record { told = told; gone = gone; unserved = unserved; there = there } u f)
+
+  one_goes : (a b : NetworkValue) → m.told ≡ l.told → m.unserved ≡ l.unserved → HasGone a b l m
+      → (u : Account) → AccountsFor u a (whole_loop framing l asking ended closing) → AccountsFor u b (whole_loop framing m asking ended closing)
+  one_goes a b told unserved (x, net, gone, there) u f = record {
+    told = ap (λ (v : NetworkValue). v.told) net ∙ f.told ∙ ap (λ (t : List ℕ). u.before.told ++ t) (sym told);
+    made = λ p. ap (λ (v : NetworkValue). count_by p v.made) net ∙ f.made p;
+    closed = λ p.
+        let before = f.closed p in
+        let now = ap (λ (v : NetworkValue). count_by p v.closed) net ∙ count_append p a.closed (closed_client x ∷ []) in
+        let left = ap (count_by (λ (c : ClientValue). p (closed_client c))) gone ∙ count_mapped p l.gone x in
+        let away = ap (count_by p) unserved in
+        omega (arith, before, now, left, away);
+    dealt =
+        let before = f.dealt in
+        let more = ap (λ (g : List ClientValue). length g) gone ∙ length-append l.gone (x ∷ []) in
+        let away = ap (λ (g : List ClosedValue). length g) unserved in
+        omega (arith, before, there, more, away);
+  }
+
+  -- a client has gone
+  pub goes_accounts : (a b : NetworkValue) → LetsGo a b l m → (u : Account) → AccountsFor u a (whole_loop framing l asking ended closing) → AccountsFor u b (whole_loop framing m asking ended closing)
+  goes_accounts a b s u f =
+      ⊎_elim (λ (none : (b ≡ a) × (m.gone ≡ l.gone) × (count_clients m.clients ≡ count_clients l.clients)). none_goes a b s.told s.unserved none u f)
+      (λ (gone : HasGone a b l m). one_goes a b s.told s.unserved gone u f) s.one
+
+  one_comes : (a b : NetworkValue) → m.told ≡ l.told → m.gone ≡ l.gone → HasCome a b l m
+      → (u : Account) → AccountsFor u a (whole_loop framing l asking ended closing) → AccountsFor (with_dealt 1 u) b (whole_loop framing m asking ended closing)
+  one_comes a b told gone (net, unserved, there) u f = record {
+    told = ap (λ (v : NetworkValue). v.told) net ∙ f.told ∙ ap (λ (t : List ℕ). u.before.told ++ t) (sym told);
+    made = λ p. ap (λ (v : NetworkValue). count_by p v.made) net ∙ f.made p;
+    closed = λ p.
+        let before = f.closed p in
+        let same = ap (λ (v : NetworkValue). count_by p v.closed) net in
+        let left = ap (count_by (λ (c : ClientValue). p (closed_client c))) gone in
+        let away = ap (count_by p) unserved in
+        omega (arith, before, same, left, away);
+    dealt =
+        let before = f.dealt in
+        let same = ap (λ (g : List ClientValue). length g) gone in
+        let away = ap (λ (g : List ClosedValue). length g) unserved in
+        omega (arith, before, there, same, away);
+  }
+
+  one_away : (a b : NetworkValue) → m.told ≡ l.told → m.gone ≡ l.gone → IsTurnedAway a b l m
+      → (u : Account) → AccountsFor u a (whole_loop framing l asking ended closing) → AccountsFor (with_dealt 1 u) b (whole_loop framing m asking ended closing)
+  one_away a b told gone (s, net, unserved, there) u f = record {
+    told = ap (λ (v : NetworkValue). v.told) net ∙ f.told ∙ ap (λ (t : List ℕ). u.before.told ++ t) (sym told);
+    made = λ p. ap (λ (v : NetworkValue). count_by p v.made) net ∙ f.made p;
+    closed = λ p.
+        let before = f.closed p in
+        let now = ap (λ (v : NetworkValue). count_by p v.closed) net ∙ count_append p a.closed (s ∷ []) in
+        let left = ap (count_by (λ (c : ClientValue). p (closed_client c))) gone in
+        let away = ap (count_by p) unserved ∙ count_append p l.unserved (s ∷ []) in
+        omega (arith, before, now, left, away);
+    dealt =
+        let before = f.dealt in
+        let same = ap (λ (g : List ClientValue). length g) gone in
+        let away = ap (λ (g : List ClosedValue). length g) unserved ∙ length-append l.unserved (s ∷ []) in
+        omega (arith, before, there, same, away);
+  }
+
+  -- a stream was dealt
+  pub admits_accounts : (a b : NetworkValue) → TakesIn a b l m → (u : Account) → AccountsFor u a (whole_loop framing l asking ended closing) → AccountsFor (with_dealt 1 u) b (whole_loop framing m asking ended closing)
+  admits_accounts a b s u f =
+      ⊎_elim (λ (came : HasCome a b l m). one_comes a b s.told s.gone came u f) (λ (away : IsTurnedAway a b l m). one_away a b s.told s.gone away u f) s.one
+
+-- ---- jobs
+
+abbrev show : Option AskingState → Option AskingValue
+show o = option_map asked_for o
+
+abbrev made_of : (SocketAddr → Bool) → Option AskingValue → ℕ
+made_of p o = option_map_or (λ (x : AskingValue). count_by p (peers_of x.tried x.peer)) o 0
+
+abbrev left_of : (ClosedValue → Bool) → Option AskingValue → ℕ
+left_of p o = option_map_or (λ (x : AskingValue). count_by p (streams_before x)) o 0
+
+-- one place changed
+sum_of_put : (f : Option AskingValue → ℕ) → f None ≡ 0 → (old new : List (Option AskingState)) (i : ℕ) (o n : Option AskingState) → slice_index_or old i None ≡ o → Put old new i n
+    → sum_by f (map show new) + f (show o) ≡ sum_by f (map show old) + f (show n)
+sum_of_put f none old new i o n was put =
+    let changed = sum_put (λ (s : Option AskingState). f (show s)) none old new i put.there in
+    let before = ap (λ (s : Option AskingState). f (show s)) was in
+    let after = ap (λ (s : Option AskingState). f (show s)) put.here in
+    let shown = sum_map f show old in
+    let later = sum_map f show new in
+    omega (arith, changed, before, after, shown, later)
+
+-- it goes over the same streams
+same_made : (p : SocketAddr → Bool) (x y : AskingValue) → HasStreamsOf x y → made_of p (Some y) ≡ made_of p (Some x)
+same_made p x y s = ap (λ (t : List StreamValue). count_by p (peers_of t y.peer)) s.tried ∙ ap (λ (o : Option SocketAddr). count_by p (peers_of x.tried o)) s.peer
+
+same_left : (p : ClosedValue → Bool) (x y : AskingValue) → HasStreamsOf x y → left_of p (Some y) ≡ left_of p (Some x)
+same_left p x y s = ap (λ (t : List StreamValue). count_by p (map (λ (v : StreamValue). closed_stream v) t)) s.tried
+
+module _ (framing : Framing) (l m : LoopValue) (old new : List (Option AskingState)) (ended : List (AskingState × Option Outcome)) (closing : List ClosedValue) (i : ℕ) where
+  -- one went on over the same streams
+  pub put_accounts : (a : NetworkValue) (x y : AskingState) → slice_index_or old i None ≡ Some x → Put old new i (Some y) → HasStreamsOf (asked_for x) (asked_for y)
+      → (u : Account) → AccountsFor u a (whole_loop framing l old ended closing) → AccountsFor u a (whole_loop framing l new ended closing)
+  put_accounts a x y was put s u f = record {
+    told = f.told;
+    made = λ p.
+        let before = f.made p in
+        let changed = sum_of_put (made_of p) refl old new i (Some x) (Some y) was put in
+        let same = same_made p (asked_for x) (asked_for y) s in
+        omega (arith, before, changed, same);
+    closed = λ p.
+        let before = f.closed p in
+        let changed = sum_of_put (left_of p) refl old new i (Some x) (Some y) was put in
+        let same = same_left p (asked_for x) (asked_for y) s in
+        omega (arith, before, changed, same);
+    dealt = f.dealt;
+  }
+
+  -- .. over another
+  pub over_accounts : (a b : NetworkValue) (x y : AskingState) (address : SocketAddr) → slice_index_or old i None ≡ Some x → Put old new i (Some y) → GoesOver address a b (asked_for x) (asked_for y)
+      → (u : Account) → AccountsFor u a (whole_loop framing l old ended closing) → AccountsFor u b (whole_loop framing l new ended closing)
+  over_accounts a b x y address was put s u f = record {
+    told = ap (λ (v : NetworkValue). v.told) s.net ∙ f.told;
+    made = λ p.
+        let before = f.made p in
+        let changed = sum_of_put (made_of p) refl old new i (Some x) (Some y) was put in
+        let net = ap (λ (v : NetworkValue). count_by p v.made) s.net ∙ count_append p a.made (address ∷ []) in
+        let peers : made_of p (Some (asked_for y)) ≡ made_of p (Some (asked_for x)) + count_by p (address ∷ []) =
+        ap (λ (o : Option SocketAddr). count_by p (peers_of (asked_for y).tried o)) s.peer
+        ∙ ap (λ (t : List SocketAddr). count_by p (t ++ address ∷ [])) s.peers
+        ∙ count_append p (peers_of (asked_for x).tried (asked_for x).peer) (address ∷ []) in
+        omega (arith, before, changed, net, peers);
+    closed = λ p.
+        let before = f.closed p in
+        let changed = sum_of_put (left_of p) refl old new i (Some x) (Some y) was put in
+        let net = ap (λ (v : NetworkValue). count_by p v.closed) s.net ∙ count_append p a.closed (stream_now (asked_for x)) in
+        let left : left_of p (Some (asked_for y)) ≡ left_of p (Some (asked_for x)) + count_by p (stream_now (asked_for x)) =
+        ap (count_by p) s.left ∙ count_append p (streams_before (asked_for x)) (stream_now (asked_for x)) in
+        omega (arith, before, changed, net, left);
+    dealt = f.dealt;
+  }
+
+  pub connects_accounts : (a b : NetworkValue) (x y : AskingState) → slice_index_or old i None ≡ Some x → Put old new i (Some y) → Connects a b (asked_for x) (asked_for y)
+      → (u : Account) → AccountsFor u a (whole_loop framing l old ended closing) → AccountsFor u b (whole_loop framing l new ended closing)
+  connects_accounts a b x y was put s u f =
+      ⊎_elim
+      (λ (same : (b ≡ a) × HasStreamsOf (asked_for x) (asked_for y)).
+      subst (λ (v : NetworkValue). AccountsFor u v (whole_loop framing l new ended closing)) (sym same.0) (put_accounts a x y was put same.1 u f))
+      (λ (over : (address : SocketAddr) × GoesOver address a b (asked_for x) (asked_for y)). over_accounts a b x y over.0 was put over.1 u f)
+      s
+
+  -- one began
+  pub begin_accounts : (a : NetworkValue) (y : AskingState) → IsStill l m → slice_index_or old i None ≡ None → Put old new i (Some y) → (asked_for y).tried ≡ [] → (asked_for y).peer ≡ None
+      → (u : Account) → AccountsFor u a (whole_loop framing l old ended closing) → AccountsFor u a (whole_loop framing m new ended closing)
+  begin_accounts a y still vacant put none alone u f =
+      let g = still_accounts framing old ended closing l m a still u f in record {
+        told = g.told;
+        made = λ p.
+            let before = g.made p in
+            let changed = sum_of_put (made_of p) refl old new i None (Some y) vacant put in
+            let fresh : made_of p (Some (asked_for y)) ≡ 0 = ap (λ (t : List StreamValue). count_by p (peers_of t (asked_for y).peer)) none ∙ ap (λ (o : Option SocketAddr). count_by p (peers_of [] o)) alone in
+            omega (arith, before, changed, fresh);
+        closed = λ p.
+            let before = g.closed p in
+            let changed = sum_of_put (left_of p) refl old new i None (Some y) vacant put in
+            let fresh : left_of p (Some (asked_for y)) ≡ 0 = ap (λ (t : List StreamValue). count_by p (map (λ (v : StreamValue). closed_stream v) t)) none in
+            omega (arith, before, changed, fresh);
+        dealt = g.dealt;
+      }
+
+  -- one ended, and its stream is left
+  pub end_accounts : (a b : NetworkValue) (x y : AskingState) (o : Option Outcome) (ended' : List (AskingState × Option Outcome)) (closing' streams : List ClosedValue) → IsStill l m → slice_index_or old i None ≡ Some x → Put old new i None
+      → HasStreamsOf (asked_for x) (asked_for y) → ended' ≡ ended ++ (y, o) ∷ [] → streams ≡ stream_now (asked_for y) → ClosesFrom a b (streams ++ closing) closing'
+      → (u : Account) → AccountsFor u a (whole_loop framing l old ended closing) → AccountsFor u b (whole_loop framing m new ended' closing')
+  end_accounts a b x y o ended' closing' streams still was put same more stream closes u f =
+      let g = still_accounts framing old ended closing l m a still u f in
+      let shown : AskingState × Option Outcome → EndedValue = λ (d : AskingState × Option Outcome). ended_value (asked_for d.0) d.1 in
+      let ends : map shown ended' ≡ map shown ended ++ shown (y, o) ∷ [] = ap (map shown) more ∙ map-append shown ended ((y, o) ∷ []) in record {
+        told = closes.told ∙ g.told;
+        made = λ p.
+            let of_ended : EndedValue → ℕ = λ (e : EndedValue). count_by p (peers_of e.asking.tried e.asking.peer) in
+            let before = g.made p in
+            let net = ap (count_by p) closes.made in
+            let changed = sum_of_put (made_of p) refl old new i (Some x) None was put in
+            let alike = same_made p (asked_for x) (asked_for y) same in
+            let total = ap (sum_by of_ended) ends ∙ sum_by-append of_ended (map shown ended) (shown (y, o) ∷ []) in
+            let last = sum_by-cons of_ended (shown (y, o)) [] in
+            omega (arith, before, net, changed, alike, total, last);
+        closed = λ p.
+            let of_ended : EndedValue → ℕ = λ (e : EndedValue). count_by p (streams_before e.asking ++ stream_now e.asking) in
+            let before = g.closed p in
+            let net = closes.each p in
+            let parts = count_append p streams closing in
+            let its = ap (count_by p) stream in
+            let changed = sum_of_put (left_of p) refl old new i (Some x) None was put in
+            let alike = same_left p (asked_for x) (asked_for y) same in
+            let total = ap (sum_by of_ended) ends ∙ sum_by-append of_ended (map shown ended) (shown (y, o) ∷ []) in
+            let last = sum_by-cons of_ended (shown (y, o)) [] in
+            let both = count_append p (streams_before (asked_for y)) (stream_now (asked_for y)) in
+            omega (arith, before, net, parts, its, changed, alike, total, last, both);
+        dealt = g.dealt;
+      }
+
+-- streams that waited were closed
+pub closes_accounts : (framing : Framing) (l : LoopValue) (asking : List (Option AskingState)) (ended : List (AskingState × Option Outcome)) (closing closing' : List ClosedValue) (a b : NetworkValue) → ClosesFrom a b closing closing'
+    → (u : Account) → AccountsFor u a (whole_loop framing l asking ended closing) → AccountsFor u b (whole_loop framing l asking ended closing')
+closes_accounts framing l asking ended closing closing' a b closes u f = record {
+  told = closes.told ∙ f.told;
+  made = λ p. ap (count_by p) closes.made ∙ f.made p;
+  closed = λ p.
+      let before = f.closed p in
+      let net = closes.each p in
+      omega (arith, before, net);
+  dealt = f.dealt;
+}
+
+-- nothing was done yet
+pub first_accounts : (w : WholeLoop) → StartsLoop w → (a : NetworkValue) → AccountsFor (first_account a) a w
+first_accounts w s a = record {
+  told = sym (ap (λ (t : List ℕ). a.told ++ t) s.side.none_told ∙ append-nil a.told);
+  made = λ p.
+      let none : count_made p w ≡ 0 = rw (s.none_asked, s.none_ended) refl in
+      omega (arith, none);
+  closed = λ p.
+      let none : count_left p w ≡ 0 = rw (s.side.none_gone, s.side.none_unserved, s.none_asked, s.none_ended) refl in
+      let waits : count_by p w.closing ≡ 0 = rw s.none_closing refl in
+      omega (arith, none, waits);
+  dealt = let none : count_dealt w.side ≡ 0 = rw (s.side.none_there, s.side.none_gone, s.side.none_unserved) refl in sym none;
+}

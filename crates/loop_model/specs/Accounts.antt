@@ -1,0 +1,78 @@
+-- What a loop's network has done, and how the loop's lists account for it.
+use Rattle.std.specs.Prelude.{◌≡◌, ℕ, ◌+◌, Bool, true, List, [], ◌∷◌, ◌++◌, length, count_by, sum_by, map, Option, Some, None, option_to_list}
+use Rattle.std.specs.Option.{option_map_or}
+use Rattle.std.specs.declared.net.socket_addr.SocketAddr.{SocketAddr}
+use Rattle.loop_model.specs.Asking.{AskingValue, EndedValue, StreamValue, peers_of}
+use Rattle.loop_model.specs.Clients.{ClientValue}
+use Rattle.loop_model.specs.Explained.{LoopValue}
+use Rattle.loop_model.specs.Standing.{count_clients}
+use Rattle.loop_model.specs.Streams.{ClosedValue, closed_value}
+use Rattle.loop_model.specs.Whole.{WholeLoop}
+
+-- what a network has done, in order: the moments that it told, the addresses of the streams that it made, and the streams that it closed
+pub record NetworkValue : Type 0 where
+  pub told : List ℕ
+  pub made : List SocketAddr
+  pub closed : List ClosedValue
+
+-- what it had done before its loop was there, and how many streams of clients were dealt to that loop
+pub record Account : Type 0 where
+  pub before : NetworkValue
+  pub dealt : ℕ
+
+-- the same, where so many were dealt since
+abbrev pub with_dealt : ℕ → Account → Account
+with_dealt more u = record u { dealt = u.dealt + more }
+
+-- of a new loop
+abbrev pub first_account : NetworkValue → Account
+first_account a = record { before = a; dealt = 0 }
+
+-- ---- what the loop's lists say
+
+-- the streams that were given up for a job, and then the one that it went over
+abbrev pub closed_stream : StreamValue → ClosedValue
+closed_stream s = closed_value (Some s.peer) s.given s.got
+
+abbrev pub streams_before : AskingValue → List ClosedValue
+streams_before x = map closed_stream x.tried
+
+abbrev pub stream_now : AskingValue → List ClosedValue
+stream_now x = option_map_or (λ (peer : SocketAddr). closed_value (Some peer) x.given x.got ∷ []) x.peer []
+
+-- how many streams to such addresses were made for its jobs, those that are asked for and those that were
+abbrev pub count_made : (SocketAddr → Bool) → WholeLoop → ℕ
+count_made p w =
+    sum_by (λ (o : Option AskingValue). option_map_or (λ (x : AskingValue). count_by p (peers_of x.tried x.peer)) o 0) w.asking
+    + sum_by (λ (e : EndedValue). count_by p (peers_of e.asking.tried e.asking.peer)) w.ended
+
+-- how many such streams its clients and jobs have left: of clients that have gone, of those that were not taken in, those that were given up for
+-- jobs, and those over which jobs went that have ended
+abbrev pub closed_client : ClientValue → ClosedValue
+closed_client x = closed_value None x.given x.got
+
+abbrev pub count_gone : (ClosedValue → Bool) → LoopValue → ℕ
+count_gone p l = count_by (λ (x : ClientValue). p (closed_client x)) l.gone + count_by p l.unserved
+
+abbrev pub count_left : (ClosedValue → Bool) → WholeLoop → ℕ
+count_left p w =
+    count_gone p w.side + sum_by (λ (o : Option AskingValue). option_map_or (λ (x : AskingValue). count_by p (streams_before x)) o 0) w.asking
+    + sum_by (λ (e : EndedValue). count_by p (streams_before e.asking ++ stream_now e.asking)) w.ended
+
+-- how many streams came to it: of clients that are there, that have gone, and that were not taken in
+abbrev pub count_dealt : LoopValue → ℕ
+count_dealt l = count_clients l.clients + length l.gone + length l.unserved
+
+-- ---- the account
+
+-- The network told what the loop was told. It made, for each address, as many streams as jobs went over. Each stream that has left its client
+-- or its job was closed, as it was then, or waits for its backend's end; and no other was closed. Each stream that was dealt came to the loop.
+pub record AccountsFor (u : Account) (a : NetworkValue) (w : WholeLoop) : Type 0 where
+  pub told : a.told ≡ u.before.told ++ w.side.told
+  pub made : (p : SocketAddr → Bool) → count_by p a.made ≡ count_by p u.before.made + count_made p w
+  pub closed : (p : ClosedValue → Bool) → count_by p a.closed + count_by p w.closing ≡ count_by p u.before.closed + count_left p w
+  pub dealt : u.dealt ≡ count_dealt w.side
+
+-- so many streams were dealt to the loop, and whatever was before, the account is right again
+abbrev pub AccountsOn : ℕ → NetworkValue → NetworkValue → WholeLoop → WholeLoop → Type 0
+AccountsOn more a b v w = (u : Account) → AccountsFor u a v → AccountsFor (with_dealt more u) b w

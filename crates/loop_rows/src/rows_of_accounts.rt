@@ -1,0 +1,45 @@
+//! The worked rows of what a loop's network has done. The functions do nothing.
+ghost use Rattle.std.specs.Prelude.{◌≡◌, ◌∷◌, [], ℕ, List, Option, Some, None, false, true};
+ghost use Rattle.std.specs.declared.net.socket_addr.SocketAddr.{SocketAddr};
+ghost use Rattle.connect_codec.specs.declared.answer.Outcome.{Outcome};
+ghost use Rattle.gateway_model.specs.Job.{JobValue};
+ghost use Rattle.gateway_theory.specs.Values.{GatewayValue};
+ghost use Rattle.http_pieces.specs.declared.framing.Framing.{Framing};
+ghost use Rattle.loop_model.specs.Accounts.{AccountsFor};
+ghost use Rattle.loop_model.specs.Asking.{stream_value};
+ghost use Rattle.loop_model.specs.Streams.{closed_value};
+ghost use Rattle.loop_rows.specs.LoopRows.{account, asked, asks, client_of, client_with, ended, loop_of, network, with_ends, with_gone};
+
+/// A stream that was made is that of a job; it is closed once that has ended, or waits to be; and so is a stream that was
+/// given up, and a client's.
+fn streams_of_a_loop()
+    ensures none { (f : Framing) (v : GatewayValue) → AccountsFor (account 0) (network [] []) (loop_of f v [] [] [] []) }
+    ensures made { (a : SocketAddr) (f : Framing) (v : GatewayValue) (j : JobValue) (got : List ℕ)
+        → AccountsFor (account 0) (network (a ∷ []) []) (asks f v (asked a j [] [] got)) }
+    ensures given_up { (a b : SocketAddr) (f : Framing) (v : GatewayValue) (j : JobValue)
+        → AccountsFor (account 0) (network (a ∷ b ∷ []) (closed_value (Some a) [] [] ∷ [])) (asks f v (asked b j (stream_value a [] [] false ∷ []) [] [])) }
+    ensures closed { (a : SocketAddr) (f : Framing) (v : GatewayValue) (j : JobValue) (given got : List ℕ) (o : Option Outcome)
+        → AccountsFor (account 0) (network (a ∷ []) (closed_value (Some a) given got ∷ [])) (with_ends f v (ended a j [] given got o ∷ []) []) }
+    ensures waits { (a : SocketAddr) (f : Framing) (v : GatewayValue) (j : JobValue) (given got : List ℕ) (o : Option Outcome)
+        → AccountsFor (account 0) (network (a ∷ []) []) (with_ends f v (ended a j [] given got o ∷ []) (closed_value (Some a) given got ∷ [])) }
+    ensures client { (f : Framing) (v : GatewayValue) (given got : List ℕ)
+        → AccountsFor (account 2) (network [] (closed_value None given got ∷ [])) (with_gone f v (Some (client_of 0) ∷ []) (client_with 1 false given got true [] ∷ [])) }
+{}
+
+/// No stream is out of sight: none is made that is no job's, or to another address than its job says; none is dropped
+/// unclosed, or closed twice; no byte more goes over one that was left; and no stream that was dealt is lost.
+fn streams_out_of_sight()
+    ensures nobodys { (a : SocketAddr) (f : Framing) (v : GatewayValue) → AccountsFor (account 0) (network (a ∷ []) []) (loop_of f v [] [] [] []) → ⊥ }
+    ensures unmade { (a : SocketAddr) (f : Framing) (v : GatewayValue) (j : JobValue)
+        → AccountsFor (account 0) (network [] []) (asks f v (asked a j [] [] [])) → ⊥ }
+    ensures unclosed { (a : SocketAddr) (f : Framing) (v : GatewayValue) (j : JobValue) (o : Option Outcome)
+        → AccountsFor (account 0) (network (a ∷ []) []) (with_ends f v (ended a j [] [] [] o ∷ []) []) → ⊥ }
+    ensures twice { (a : SocketAddr) (f : Framing) (v : GatewayValue) (j : JobValue) (o : Option Outcome)
+        → AccountsFor (account 0) (network (a ∷ []) (closed_value (Some a) [] [] ∷ [])) (with_ends f v (ended a j [] [] [] o ∷ []) (closed_value (Some a) [] [] ∷ [])) → ⊥ }
+    ensures given_up { (a b : SocketAddr) (f : Framing) (v : GatewayValue) (j : JobValue)
+        → AccountsFor (account 0) (network (a ∷ b ∷ []) []) (asks f v (asked b j (stream_value a [] [] false ∷ []) [] [])) → ⊥ }
+    ensures client { (f : Framing) (v : GatewayValue) → AccountsFor (account 1) (network [] []) (with_gone f v [] (client_of 0 ∷ [])) → ⊥ }
+    ensures dealt { (f : Framing) (v : GatewayValue) → AccountsFor (account 1) (network [] []) (loop_of f v [] [] [] []) → ⊥ }
+    ensures written { (a : SocketAddr) (f : Framing) (v : GatewayValue) (j : JobValue) (o : Option Outcome) (byte : ℕ)
+        → AccountsFor (account 0) (network (a ∷ []) (closed_value (Some a) [] (byte ∷ []) ∷ [])) (with_ends f v (ended a j [] [] [] o ∷ []) []) → ⊥ }
+{}
