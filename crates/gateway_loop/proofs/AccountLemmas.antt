@@ -1,8 +1,8 @@
 -- How each step changes what a loop's lists say of its streams.
-use Rattle.gateway_loop.proofs.Words.{◌≡◌, ℕ, ◌+◌, Bool, cond, List, [], ◌∷◌, ◌++◌, length, map, Option, None, Some, refl, sym, ap, ◌∙◌, subst, arith, append_assoc, append-nil, ⊎_elim, count_by, sum_by, option_map, slice_index_or, option_map_or, map-append, sum_by-append, sum_by-cons, Outcome, SocketAddr, AskingState, AskingValue, ClientValue, EndedValue, LoopValue, StreamValue, asked_for, ended_value, whole_loop, WholeLoop, Framing}
+use Rattle.gateway_loop.proofs.Words.{◌≡◌, ℕ, ◌+◌, Bool, cond, List, [], ◌∷◌, ◌++◌, length, map, Option, None, Some, refl, sym, ap, ◌∙◌, subst, arith, append_assoc, append-nil, ⊎_elim, count_by, sum_by, option_map, slice_index_or, option_map_or, map-append, sum_by-append, sum_by-cons, Outcome, SocketAddr, AskingState, AskingValue, ClientValue, EndedValue, LoopValue, StreamValue, asked_for, ended_value, whole_loop, Beside, FoundValue, beside, WholeLoop, Framing}
 use Rattle.gateway_loop.specs.Loop.{StartsLoop}
 use Rattle.std.proofs.lemmas.List.{length-append}
-use Rattle.loop_model.specs.Accounts.{Account, AccountsFor, NetworkValue, closed_client, closed_stream, count_dealt, count_left, count_made, first_account, stream_now, streams_before, with_dealt}
+use Rattle.loop_model.specs.Accounts.{Account, AccountsFor, NetworkValue, closed_client, closed_stream, count_dealt, count_left, count_made, first_account, stream_now, streams_before, with_more}
 use Rattle.loop_model.specs.Asking.{peers_of}
 use Rattle.loop_model.specs.Standing.{count_clients}
 use Rattle.loop_model.specs.Streams.{ClosedValue}
@@ -25,9 +25,9 @@ count_mapped p gone x =
     let same : count_by p (closed_client x ∷ []) ≡ cond (p (closed_client x)) 1 0 + 0 = sum_by-cons (λ (c : ClosedValue). cond (p c) 1 0) (closed_client x) [] in
     omega (arith, more, one, same)
 
-module _ (framing : Framing) (asking : List (Option AskingState)) (ended : List (AskingState × Option Outcome)) (closing : List ClosedValue) (l m : LoopValue) where
+module _ (framing : Framing) (asking : List (Option AskingState)) (ended : List (AskingState × Option Outcome)) (rest : Beside) (l m : LoopValue) where
   -- nobody came or went
-  pub still_accounts : (a : NetworkValue) → IsStill l m → (u : Account) → AccountsFor u a (whole_loop framing l asking ended closing) → AccountsFor u a (whole_loop framing m asking ended closing)
+  pub still_accounts : (a : NetworkValue) → IsStill l m → (u : Account) → AccountsFor u a (whole_loop framing l asking ended rest) → AccountsFor u a (whole_loop framing m asking ended rest)
   still_accounts a s u f = record {
     told = f.told ∙ ap (λ (t : List ℕ). u.before.told ++ t) (sym s.told);
     made = f.made;
@@ -42,10 +42,11 @@ module _ (framing : Framing) (asking : List (Option AskingState)) (ended : List 
         let gone = ap (λ (g : List ClientValue). length g) s.gone in
         let away = ap (λ (g : List ClosedValue). length g) s.unserved in
         omega (arith, before, there, gone, away);
+    found = f.found;
   }
 
   -- a moment was told
-  pub told_accounts : (a b : NetworkValue) → IsTold a b l m → (u : Account) → AccountsFor u a (whole_loop framing l asking ended closing) → AccountsFor u b (whole_loop framing m asking ended closing)
+  pub told_accounts : (a b : NetworkValue) → IsTold a b l m → (u : Account) → AccountsFor u a (whole_loop framing l asking ended rest) → AccountsFor u b (whole_loop framing m asking ended rest)
   told_accounts a b s u f = record {
     told = ap (λ (v : NetworkValue). v.told) s.net ∙ ap (λ (t : List ℕ). t ++ s.moment ∷ []) f.told ∙ append_assoc u.before.told l.told (s.moment ∷ []) ∙ ap (λ (t : List ℕ). u.before.told ++ t) (sym s.told);
     made = λ p. ap (λ (v : NetworkValue). count_by p v.made) s.net ∙ f.made p;
@@ -61,17 +62,18 @@ module _ (framing : Framing) (asking : List (Option AskingState)) (ended : List 
         let gone = ap (λ (g : List ClientValue). length g) s.gone in
         let away = ap (λ (g : List ClosedValue). length g) s.unserved in
         omega (arith, before, there, gone, away);
+    found = f.found;
   }
 
   -- nobody was there to go
   none_goes : (a b : NetworkValue) → m.told ≡ l.told → m.unserved ≡ l.unserved → (b ≡ a) × (m.gone ≡ l.gone) × (count_clients m.clients ≡ count_clients l.clients)
-      → (u : Account) → AccountsFor u a (whole_loop framing l asking ended closing) → AccountsFor u b (whole_loop framing m asking ended closing)
+      → (u : Account) → AccountsFor u a (whole_loop framing l asking ended rest) → AccountsFor u b (whole_loop framing m asking ended rest)
   none_goes a b told unserved (net, gone, there) u f =
-      subst (λ (v : NetworkValue). AccountsFor u v (whole_loop framing m asking ended closing)) (sym net)
+      subst (λ (v : NetworkValue). AccountsFor u v (whole_loop framing m asking ended rest)) (sym net)
       (still_accounts a record { told = told; gone = gone; unserved = unserved; there = there } u f)
 
   one_goes : (a b : NetworkValue) → m.told ≡ l.told → m.unserved ≡ l.unserved → HasGone a b l m
-      → (u : Account) → AccountsFor u a (whole_loop framing l asking ended closing) → AccountsFor u b (whole_loop framing m asking ended closing)
+      → (u : Account) → AccountsFor u a (whole_loop framing l asking ended rest) → AccountsFor u b (whole_loop framing m asking ended rest)
   one_goes a b told unserved (x, net, gone, there) u f = record {
     told = ap (λ (v : NetworkValue). v.told) net ∙ f.told ∙ ap (λ (t : List ℕ). u.before.told ++ t) (sym told);
     made = λ p. ap (λ (v : NetworkValue). count_by p v.made) net ∙ f.made p;
@@ -86,16 +88,17 @@ module _ (framing : Framing) (asking : List (Option AskingState)) (ended : List 
         let more = ap (λ (g : List ClientValue). length g) gone ∙ length-append l.gone (x ∷ []) in
         let away = ap (λ (g : List ClosedValue). length g) unserved in
         omega (arith, before, there, more, away);
+    found = f.found;
   }
 
   -- a client has gone
-  pub goes_accounts : (a b : NetworkValue) → LetsGo a b l m → (u : Account) → AccountsFor u a (whole_loop framing l asking ended closing) → AccountsFor u b (whole_loop framing m asking ended closing)
+  pub goes_accounts : (a b : NetworkValue) → LetsGo a b l m → (u : Account) → AccountsFor u a (whole_loop framing l asking ended rest) → AccountsFor u b (whole_loop framing m asking ended rest)
   goes_accounts a b s u f =
       ⊎_elim (λ (none : (b ≡ a) × (m.gone ≡ l.gone) × (count_clients m.clients ≡ count_clients l.clients)). none_goes a b s.told s.unserved none u f)
       (λ (gone : HasGone a b l m). one_goes a b s.told s.unserved gone u f) s.one
 
   one_comes : (a b : NetworkValue) → m.told ≡ l.told → m.gone ≡ l.gone → HasCome a b l m
-      → (u : Account) → AccountsFor u a (whole_loop framing l asking ended closing) → AccountsFor (with_dealt 1 u) b (whole_loop framing m asking ended closing)
+      → (u : Account) → AccountsFor u a (whole_loop framing l asking ended rest) → AccountsFor (with_more 1 [] u) b (whole_loop framing m asking ended rest)
   one_comes a b told gone (net, unserved, there) u f = record {
     told = ap (λ (v : NetworkValue). v.told) net ∙ f.told ∙ ap (λ (t : List ℕ). u.before.told ++ t) (sym told);
     made = λ p. ap (λ (v : NetworkValue). count_by p v.made) net ∙ f.made p;
@@ -110,10 +113,11 @@ module _ (framing : Framing) (asking : List (Option AskingState)) (ended : List 
         let same = ap (λ (g : List ClientValue). length g) gone in
         let away = ap (λ (g : List ClosedValue). length g) unserved in
         omega (arith, before, there, same, away);
+    found = append-nil u.found ∙ f.found;
   }
 
   one_away : (a b : NetworkValue) → m.told ≡ l.told → m.gone ≡ l.gone → IsTurnedAway a b l m
-      → (u : Account) → AccountsFor u a (whole_loop framing l asking ended closing) → AccountsFor (with_dealt 1 u) b (whole_loop framing m asking ended closing)
+      → (u : Account) → AccountsFor u a (whole_loop framing l asking ended rest) → AccountsFor (with_more 1 [] u) b (whole_loop framing m asking ended rest)
   one_away a b told gone (s, net, unserved, there) u f = record {
     told = ap (λ (v : NetworkValue). v.told) net ∙ f.told ∙ ap (λ (t : List ℕ). u.before.told ++ t) (sym told);
     made = λ p. ap (λ (v : NetworkValue). count_by p v.made) net ∙ f.made p;
@@ -128,10 +132,11 @@ module _ (framing : Framing) (asking : List (Option AskingState)) (ended : List 
         let same = ap (λ (g : List ClientValue). length g) gone in
         let away = ap (λ (g : List ClosedValue). length g) unserved ∙ length-append l.unserved (s ∷ []) in
         omega (arith, before, there, same, away);
+    found = append-nil u.found ∙ f.found;
   }
 
   -- a stream was dealt
-  pub admits_accounts : (a b : NetworkValue) → TakesIn a b l m → (u : Account) → AccountsFor u a (whole_loop framing l asking ended closing) → AccountsFor (with_dealt 1 u) b (whole_loop framing m asking ended closing)
+  pub admits_accounts : (a b : NetworkValue) → TakesIn a b l m → (u : Account) → AccountsFor u a (whole_loop framing l asking ended rest) → AccountsFor (with_more 1 [] u) b (whole_loop framing m asking ended rest)
   admits_accounts a b s u f =
       ⊎_elim (λ (came : HasCome a b l m). one_comes a b s.told s.gone came u f) (λ (away : IsTurnedAway a b l m). one_away a b s.told s.gone away u f) s.one
 
@@ -164,10 +169,10 @@ same_made p x y s = ap (λ (t : List StreamValue). count_by p (peers_of t y.peer
 same_left : (p : ClosedValue → Bool) (x y : AskingValue) → HasStreamsOf x y → left_of p (Some y) ≡ left_of p (Some x)
 same_left p x y s = ap (λ (t : List StreamValue). count_by p (map (λ (v : StreamValue). closed_stream v) t)) s.tried
 
-module _ (framing : Framing) (l m : LoopValue) (old new : List (Option AskingState)) (ended : List (AskingState × Option Outcome)) (closing : List ClosedValue) (i : ℕ) where
+module _ (framing : Framing) (l m : LoopValue) (old new : List (Option AskingState)) (ended : List (AskingState × Option Outcome)) (rest : Beside) (i : ℕ) where
   -- one went on over the same streams
   pub put_accounts : (a : NetworkValue) (x y : AskingState) → slice_index_or old i None ≡ Some x → Put old new i (Some y) → HasStreamsOf (asked_for x) (asked_for y)
-      → (u : Account) → AccountsFor u a (whole_loop framing l old ended closing) → AccountsFor u a (whole_loop framing l new ended closing)
+      → (u : Account) → AccountsFor u a (whole_loop framing l old ended rest) → AccountsFor u a (whole_loop framing l new ended rest)
   put_accounts a x y was put s u f = record {
     told = f.told;
     made = λ p.
@@ -181,11 +186,12 @@ module _ (framing : Framing) (l m : LoopValue) (old new : List (Option AskingSta
         let same = same_left p (asked_for x) (asked_for y) s in
         omega (arith, before, changed, same);
     dealt = f.dealt;
+    found = f.found;
   }
 
   -- .. over another
   pub over_accounts : (a b : NetworkValue) (x y : AskingState) (address : SocketAddr) → slice_index_or old i None ≡ Some x → Put old new i (Some y) → GoesOver address a b (asked_for x) (asked_for y)
-      → (u : Account) → AccountsFor u a (whole_loop framing l old ended closing) → AccountsFor u b (whole_loop framing l new ended closing)
+      → (u : Account) → AccountsFor u a (whole_loop framing l old ended rest) → AccountsFor u b (whole_loop framing l new ended rest)
   over_accounts a b x y address was put s u f = record {
     told = ap (λ (v : NetworkValue). v.told) s.net ∙ f.told;
     made = λ p.
@@ -205,22 +211,23 @@ module _ (framing : Framing) (l m : LoopValue) (old new : List (Option AskingSta
         ap (count_by p) s.left ∙ count_append p (streams_before (asked_for x)) (stream_now (asked_for x)) in
         omega (arith, before, changed, net, left);
     dealt = f.dealt;
+    found = f.found;
   }
 
   pub connects_accounts : (a b : NetworkValue) (x y : AskingState) → slice_index_or old i None ≡ Some x → Put old new i (Some y) → Connects a b (asked_for x) (asked_for y)
-      → (u : Account) → AccountsFor u a (whole_loop framing l old ended closing) → AccountsFor u b (whole_loop framing l new ended closing)
+      → (u : Account) → AccountsFor u a (whole_loop framing l old ended rest) → AccountsFor u b (whole_loop framing l new ended rest)
   connects_accounts a b x y was put s u f =
       ⊎_elim
       (λ (same : (b ≡ a) × HasStreamsOf (asked_for x) (asked_for y)).
-      subst (λ (v : NetworkValue). AccountsFor u v (whole_loop framing l new ended closing)) (sym same.0) (put_accounts a x y was put same.1 u f))
+      subst (λ (v : NetworkValue). AccountsFor u v (whole_loop framing l new ended rest)) (sym same.0) (put_accounts a x y was put same.1 u f))
       (λ (over : (address : SocketAddr) × GoesOver address a b (asked_for x) (asked_for y)). over_accounts a b x y over.0 was put over.1 u f)
       s
 
   -- one began
   pub begin_accounts : (a : NetworkValue) (y : AskingState) → IsStill l m → slice_index_or old i None ≡ None → Put old new i (Some y) → (asked_for y).tried ≡ [] → (asked_for y).peer ≡ None
-      → (u : Account) → AccountsFor u a (whole_loop framing l old ended closing) → AccountsFor u a (whole_loop framing m new ended closing)
+      → (u : Account) → AccountsFor u a (whole_loop framing l old ended rest) → AccountsFor u a (whole_loop framing m new ended rest)
   begin_accounts a y still vacant put none alone u f =
-      let g = still_accounts framing old ended closing l m a still u f in record {
+      let g = still_accounts framing old ended rest l m a still u f in record {
         told = g.told;
         made = λ p.
             let before = g.made p in
@@ -233,14 +240,15 @@ module _ (framing : Framing) (l m : LoopValue) (old new : List (Option AskingSta
             let fresh : left_of p (Some (asked_for y)) ≡ 0 = ap (λ (t : List StreamValue). count_by p (map (λ (v : StreamValue). closed_stream v) t)) none in
             omega (arith, before, changed, fresh);
         dealt = g.dealt;
+        found = g.found;
       }
 
   -- one ended, and its stream is left
   pub end_accounts : (a b : NetworkValue) (x y : AskingState) (o : Option Outcome) (ended' : List (AskingState × Option Outcome)) (closing' streams : List ClosedValue) → IsStill l m → slice_index_or old i None ≡ Some x → Put old new i None
-      → HasStreamsOf (asked_for x) (asked_for y) → ended' ≡ ended ++ (y, o) ∷ [] → streams ≡ stream_now (asked_for y) → ClosesFrom a b (streams ++ closing) closing'
-      → (u : Account) → AccountsFor u a (whole_loop framing l old ended closing) → AccountsFor u b (whole_loop framing m new ended' closing')
+      → HasStreamsOf (asked_for x) (asked_for y) → ended' ≡ ended ++ (y, o) ∷ [] → streams ≡ stream_now (asked_for y) → ClosesFrom a b (streams ++ rest.closing) closing'
+      → (u : Account) → AccountsFor u a (whole_loop framing l old ended rest) → AccountsFor u b (whole_loop framing m new ended' (beside closing' rest.looked_up))
   end_accounts a b x y o ended' closing' streams still was put same more stream closes u f =
-      let g = still_accounts framing old ended closing l m a still u f in
+      let g = still_accounts framing old ended rest l m a still u f in
       let shown : AskingState × Option Outcome → EndedValue = λ (d : AskingState × Option Outcome). ended_value (asked_for d.0) d.1 in
       let ends : map shown ended' ≡ map shown ended ++ shown (y, o) ∷ [] = ap (map shown) more ∙ map-append shown ended ((y, o) ∷ []) in record {
         told = closes.told ∙ g.told;
@@ -257,7 +265,7 @@ module _ (framing : Framing) (l m : LoopValue) (old new : List (Option AskingSta
             let of_ended : EndedValue → ℕ = λ (e : EndedValue). count_by p (streams_before e.asking ++ stream_now e.asking) in
             let before = g.closed p in
             let net = closes.each p in
-            let parts = count_append p streams closing in
+            let parts = count_append p streams rest.closing in
             let its = ap (count_by p) stream in
             let changed = sum_of_put (left_of p) refl old new i (Some x) None was put in
             let alike = same_left p (asked_for x) (asked_for y) same in
@@ -266,12 +274,13 @@ module _ (framing : Framing) (l m : LoopValue) (old new : List (Option AskingSta
             let both = count_append p (streams_before (asked_for y)) (stream_now (asked_for y)) in
             omega (arith, before, net, parts, its, changed, alike, total, last, both);
         dealt = g.dealt;
+        found = g.found;
       }
 
 -- streams that waited were closed
-pub closes_accounts : (framing : Framing) (l : LoopValue) (asking : List (Option AskingState)) (ended : List (AskingState × Option Outcome)) (closing closing' : List ClosedValue) (a b : NetworkValue) → ClosesFrom a b closing closing'
-    → (u : Account) → AccountsFor u a (whole_loop framing l asking ended closing) → AccountsFor u b (whole_loop framing l asking ended closing')
-closes_accounts framing l asking ended closing closing' a b closes u f = record {
+pub closes_accounts : (framing : Framing) (l : LoopValue) (asking : List (Option AskingState)) (ended : List (AskingState × Option Outcome)) (rest : Beside) (closing : List ClosedValue) (a b : NetworkValue) → ClosesFrom a b rest.closing closing
+    → (u : Account) → AccountsFor u a (whole_loop framing l asking ended rest) → AccountsFor u b (whole_loop framing l asking ended (beside closing rest.looked_up))
+closes_accounts framing l asking ended rest closing a b closes u f = record {
   told = closes.told ∙ f.told;
   made = λ p. ap (count_by p) closes.made ∙ f.made p;
   closed = λ p.
@@ -279,6 +288,18 @@ closes_accounts framing l asking ended closing closing' a b closes u f = record 
       let net = closes.each p in
       omega (arith, before, net);
   dealt = f.dealt;
+  found = f.found;
+}
+
+-- a name was looked up
+pub found_accounts : (framing : Framing) (l : LoopValue) (asking : List (Option AskingState)) (ended : List (AskingState × Option Outcome)) (rest : Beside) (later : List FoundValue) (one : FoundValue) (a : NetworkValue) → later ≡ rest.looked_up ++ one ∷ []
+    → (u : Account) → AccountsFor u a (whole_loop framing l asking ended rest) → AccountsFor (with_more 0 (one ∷ []) u) a (whole_loop framing l asking ended (beside rest.closing later))
+found_accounts framing l asking ended rest later one a is u f = record {
+  told = f.told;
+  made = f.made;
+  closed = f.closed;
+  dealt = let before = f.dealt in omega (arith, before);
+  found = ap (λ (t : List FoundValue). t ++ one ∷ []) f.found ∙ sym is;
 }
 
 -- nothing was done yet
@@ -293,4 +314,5 @@ first_accounts w s a = record {
       let waits : count_by p w.closing ≡ 0 = rw s.none_closing refl in
       omega (arith, none, waits);
   dealt = let none : count_dealt w.side ≡ 0 = rw (s.side.none_there, s.side.none_gone, s.side.none_unserved) refl in sym none;
+  found = sym s.none_found;
 }

@@ -1,12 +1,14 @@
 -- What each step makes of the jobs that are asked for, and of those that ended.
-use Rattle.gateway_loop.proofs.Words.{◌≡◌, ◌≢◌, ◌⊎◌, ℕ, zero, suc, ◌+◌, Bool, false, cond, List, [], ◌∷◌, ◌++◌, All, map, Option, None, Some, refl, sym, ap, ◌∙◌, subst, arith, append_assoc, inl, inr, ⊎_elim, count_by, sum_by, option_map, slice_index_or, option_map_or, cases_eq, map-append, All-push, sum_by-append, sum_by-cons, Outcome, JobValue, IsPrefixOf, HandedJob, Slab, Updates, AskingValue, BeginsRequest, EndedValue, IsFair, StreamValue, ended_value, Account, AccountsFor, AccountsOn, Admits, ClosedValue, IsStill, NetworkValue, with_dealt, LoopValue, Continues, HasTicked, AsksFairly, AsksOn, ContinuesLoop, GivesUpStream, HasEndedSince, KeepsStream, WholeLoop, asked_at, count_asked, AskingState, asked_for, HandsNothing, Onward, Goes, AreFramed, IsFramed, whole_loop, Framing, SocketAddr, prefix-refl, prefix-trans}
+use Rattle.gateway_loop.proofs.Words.{AreFoundFor, AreOfName, Beside, Contains, Contains-append_left, All-weaker, FoundValue, addresses_value, beside, take, true, ◌≡◌, ◌≢◌, ◌⊎◌, ℕ, zero, suc, ◌+◌, Bool, false, cond, List, [], ◌∷◌, ◌++◌, All, map, Option, None, Some, refl, sym, ap, ◌∙◌, subst, arith, append_assoc, inl, inr, ⊎_elim, count_by, sum_by, option_map, slice_index_or, option_map_or, cases_eq, map-append, All-push, sum_by-append, sum_by-cons, Outcome, JobValue, IsPrefixOf, HandedJob, Slab, Updates, AskingValue, BeginsRequest, EndedValue, IsFair, StreamValue, ended_value, Account, AccountsFor, AccountsOn, Admits, ClosedValue, IsStill, NetworkValue, with_more, LoopValue, Continues, HasTicked, AsksFairly, AsksOn, ContinuesLoop, GivesUpStream, HasEndedSince, KeepsStream, WholeLoop, asked_at, count_asked, AskingState, asked_for, HandsNothing, Onward, Goes, AreFramed, IsFramed, whole_loop, Framing, SocketAddr, prefix-refl, prefix-trans}
 use Rattle.std.proofs.lemmas.Bool.Decides.{nat_tests}
 use Rattle.std.proofs.lemmas.List.{append-nil}
+use Rattle.std.specs.Prelude.{if◌then◌else◌}
 use Rattle.loop_model.specs.Accounts.{stream_now}
+use Rattle.branch_asking.specs.Asking.{Finds}
 use Rattle.branch_asking.specs.Streams.{Connects, HasStreamsOf}
 use Rattle.gateway_loop.specs.Clients.{IsTold, LetsGo, TakesIn}
 use Rattle.gateway_loop.specs.Closing.{ClosesFrom}
-use Rattle.gateway_loop.proofs.AccountLemmas.{admits_accounts, begin_accounts, closes_accounts, connects_accounts, end_accounts, goes_accounts, put_accounts, still_accounts, told_accounts}
+use Rattle.gateway_loop.proofs.AccountLemmas.{admits_accounts, begin_accounts, closes_accounts, found_accounts, connects_accounts, end_accounts, goes_accounts, put_accounts, still_accounts, told_accounts}
 use Rattle.gateway_loop.proofs.GrowLemmas as grow
 use Rattle.gateway_loop.proofs.Places.{Put, put_back}
 use Rattle.gateway_loop.proofs.SumLemmas.{sum_map, sum_put}
@@ -87,7 +89,7 @@ module _ (u v w : WholeLoop) (y : AskingValue) where
       }
 
 pub continues_same : (v : WholeLoop) → ContinuesLoop v v
-continues_same v = record { framing = refl; side = grow.continues_same v.side; asking = λ i x is. (x, inl is, asks_same x); ended = prefix-refl v.ended }
+continues_same v = record { framing = refl; side = grow.continues_same v.side; asking = λ i x is. (x, inl is, asks_same x); ended = prefix-refl v.ended; looked_up = prefix-refl v.looked_up }
 
 continues_then : (u v w : WholeLoop) → ContinuesLoop u v → ContinuesLoop v w → ContinuesLoop u w
 continues_then u v w a b = record {
@@ -102,6 +104,7 @@ continues_then u v w a b = record {
       (λ (e : HasEndedSince u v s.0). (s.0, inr (since_then u v w s.0 e b.ended), s.2))
       s.1;
   ended = prefix-trans u.ended v.ended w.ended a.ended b.ended;
+  looked_up = prefix-trans u.looked_up v.looked_up w.looked_up a.looked_up b.looked_up;
 }
 
 pub moves : {a b : NetworkValue} (v w : WholeLoop) → ContinuesLoop v w → ((u : Account) → AccountsFor u a v → AccountsFor u b w) → w.side.drained ≡ v.side.drained → Goes a b v w
@@ -116,37 +119,48 @@ goes_then {a} {b} {c} u v w p q = record { on = λ t before. q.on t (p.on t befo
 pub goes_on : {a b : NetworkValue} (v w : WholeLoop) → Goes a b v w → ContinuesLoop v w
 goes_on {a} {b} v w p = p.on v (continues_same v)
 
-dealt_none : (u : Account) → with_dealt 0 u ≡ u
-dealt_none u = let none : u.dealt + 0 ≡ u.dealt = omega arith in ap (λ (d : ℕ). record { before = u.before; dealt = d }) none
+more_none : (u : Account) → with_more 0 [] u ≡ u
+more_none u =
+    let none : u.dealt + 0 ≡ u.dealt = omega arith in
+    ap (λ (d : ℕ). record { before = u.before; dealt = d; found = u.found ++ [] }) none ∙ ap (λ (f : List FoundValue). record { before = u.before; dealt = u.dealt; found = f }) (append-nil u.found)
 
 -- no stream was dealt
-pub accounts_on : {a b : NetworkValue} (v w : WholeLoop) → Goes a b v w → AccountsOn 0 a b v w
-accounts_on {a} {b} v w p = λ u f. subst (λ (x : Account). AccountsFor x b w) (sym (dealt_none u)) (p.accounts u f)
+pub accounts_on : {a b : NetworkValue} (v w : WholeLoop) → Goes a b v w → AccountsOn 0 [] a b v w
+accounts_on {a} {b} v w p = λ u f. subst (λ (x : Account). AccountsFor x b w) (sym (more_none u)) (p.accounts u f)
+
+-- what was found stays so
+pub stays_found : {a b : NetworkValue} (v w : WholeLoop) (one : FoundValue) → Goes a b v w → Contains v.looked_up one → Contains w.looked_up one
+stays_found {a} {b} v w one p there =
+    let more = (goes_on v w p).looked_up in
+    subst (λ (l : List FoundValue). Contains l one) (sym more.1) (Contains-append_left v.looked_up more.0 one there)
 
 pub ruleset going = (goes_same, goes_then)
 
 -- streams were dealt before or behind
-pub goes_admits : {a b c : NetworkValue} (dealt : ℕ) (u v w : WholeLoop) → Goes a b u v → Admits dealt b c v w → Admits dealt a c u w
-goes_admits {a} {b} {c} dealt u v w p q = record { on = λ t before. q.on t (p.on t before); accounts = λ x f. q.accounts x (p.accounts x f); drained = q.drained ∙ p.drained }
+pub goes_admits : {a b c : NetworkValue} (dealt : ℕ) (found : List FoundValue) (u v w : WholeLoop) → Goes a b u v → Admits dealt found b c v w → Admits dealt found a c u w
+goes_admits {a} {b} {c} dealt found u v w p q = record { on = λ t before. q.on t (p.on t before); accounts = λ x f. q.accounts x (p.accounts x f); drained = q.drained ∙ p.drained }
 
-pub admits_goes : {a b c : NetworkValue} (dealt : ℕ) (u v w : WholeLoop) → Admits dealt a b u v → Goes b c v w → Admits dealt a c u w
-admits_goes {a} {b} {c} dealt u v w p q = record { on = λ t before. q.on t (p.on t before); accounts = λ x f. q.accounts (with_dealt dealt x) (p.accounts x f); drained = q.drained ∙ p.drained }
+pub admits_goes : {a b c : NetworkValue} (dealt : ℕ) (found : List FoundValue) (u v w : WholeLoop) → Admits dealt found a b u v → Goes b c v w → Admits dealt found a c u w
+admits_goes {a} {b} {c} dealt found u v w p q = record { on = λ t before. q.on t (p.on t before); accounts = λ x f. q.accounts (with_more dealt found x) (p.accounts x f); drained = q.drained ∙ p.drained }
 
-pub admits_on : {a b : NetworkValue} (dealt : ℕ) (v w : WholeLoop) → Admits dealt a b v w → ContinuesLoop v w
-admits_on {a} {b} dealt v w p = p.on v (continues_same v)
+pub admits_on : {a b : NetworkValue} (dealt : ℕ) (found : List FoundValue) (v w : WholeLoop) → Admits dealt found a b v w → ContinuesLoop v w
+admits_on {a} {b} dealt found v w p = p.on v (continues_same v)
 
-pub admits_none : {a : NetworkValue} (v : WholeLoop) → Admits 0 a a v v
-admits_none {a} v = record { on = λ u c. c; accounts = λ u f. subst (λ (x : Account). AccountsFor x a v) (sym (dealt_none u)) f; drained = refl }
+pub admits_none : {a : NetworkValue} (v : WholeLoop) → Admits 0 [] a a v v
+admits_none {a} v = record { on = λ u c. c; accounts = λ u f. subst (λ (x : Account). AccountsFor x a v) (sym (more_none u)) f; drained = refl }
 
-pub admits_more : {a b c : NetworkValue} (n m : ℕ) (u v w : WholeLoop) → Admits n a b u v → Admits m b c v w → Admits (n + m) a c u w
-admits_more {a} {b} {c} n m u v w p q = record {
+pub admits_more : {a b c : NetworkValue} (n m : ℕ) (first last : List FoundValue) (u v w : WholeLoop) → Admits n first a b u v → Admits m last b c v w → Admits (n + m) (first ++ last) a c u w
+admits_more {a} {b} {c} n m first last u v w p q = record {
   on = λ t before. q.on t (p.on t before);
-  accounts = λ x f. subst (λ (d : ℕ). AccountsFor (record { before = x.before; dealt = d }) c w) (add_assoc x.dealt) (q.accounts (with_dealt n x) (p.accounts x f));
+  accounts = λ x f. subst (λ (y : Account). AccountsFor y c w) (more_then x) (q.accounts (with_more n first x) (p.accounts x f));
   drained = q.drained ∙ p.drained;
 }
   where
-    add_assoc : (d : ℕ) → (d + n) + m ≡ d + (n + m)
-    add_assoc d = omega arith
+    more_then : (x : Account) → with_more m last (with_more n first x) ≡ with_more (n + m) (first ++ last) x
+    more_then x =
+        let dealt : (x.dealt + n) + m ≡ x.dealt + (n + m) = omega arith in
+        ap (λ (d : ℕ). record { before = x.before; dealt = d; found = (x.found ++ first) ++ last }) dealt
+        ∙ ap (λ (f : List FoundValue). record { before = x.before; dealt = x.dealt + (n + m); found = f }) (append_assoc x.found first last)
 
 abbrev pub show_slot : Option AskingState → Option AskingValue
 show_slot o = option_map asked_for o
@@ -163,47 +177,57 @@ none_asked : (b : AskingValue) → None ≡ Some b → ⊥
 none_asked b e = cc
 
 -- the clients' side went on, and the exchanges are the same
-continues_side : (framing : Framing) (asking : List (Option AskingState)) (ended : List (AskingState × Option Outcome)) (closing : List ClosedValue) (l m : LoopValue) → Continues l m
-    → ContinuesLoop (whole_loop framing l asking ended closing) (whole_loop framing m asking ended closing)
-continues_side framing asking ended closing l m c = record { framing = refl; side = c; asking = λ i x is. (x, inl is, asks_same x); ended = prefix-refl (whole_loop framing l asking ended closing).ended }
+continues_side : (framing : Framing) (asking : List (Option AskingState)) (ended : List (AskingState × Option Outcome)) (rest : Beside) (l m : LoopValue) → Continues l m
+    → ContinuesLoop (whole_loop framing l asking ended rest) (whole_loop framing m asking ended rest)
+continues_side framing asking ended rest l m c = record { framing = refl; side = c; asking = λ i x is. (x, inl is, asks_same x); ended = prefix-refl (whole_loop framing l asking ended rest).ended; looked_up = prefix-refl rest.looked_up }
 
-module _ (framing : Framing) (asking : List (Option AskingState)) (ended : List (AskingState × Option Outcome)) (closing : List ClosedValue) (l m : LoopValue) where
+module _ (framing : Framing) (asking : List (Option AskingState)) (ended : List (AskingState × Option Outcome)) (rest : Beside) (l m : LoopValue) where
   abbrev before : WholeLoop
-  before = whole_loop framing l asking ended closing
+  before = whole_loop framing l asking ended rest
 
   abbrev after : WholeLoop
-  after = whole_loop framing m asking ended closing
+  after = whole_loop framing m asking ended rest
 
   goes_side : {a b : NetworkValue} → Onward l m → ((u : Account) → AccountsFor u a before → AccountsFor u b after) → Goes a b before after
-  goes_side {a} {b} o accounts = moves before after (continues_side framing asking ended closing l m (o.on l (grow.continues_same l))) accounts o.drained
+  goes_side {a} {b} o accounts = moves before after (continues_side framing asking ended rest l m (o.on l (grow.continues_same l))) accounts o.drained
 
   pub goes_still : {a : NetworkValue} → Onward l m → IsStill l m → Goes a a before after
-  goes_still {a} o s = goes_side o (still_accounts framing asking ended closing l m a s)
+  goes_still {a} o s = goes_side o (still_accounts framing asking ended rest l m a s)
 
   pub goes_told : {a b : NetworkValue} → Onward l m → IsTold a b l m → Goes a b before after
-  goes_told {a} {b} o s = goes_side o (told_accounts framing asking ended closing l m a b s)
+  goes_told {a} {b} o s = goes_side o (told_accounts framing asking ended rest l m a b s)
 
   pub goes_gone : {a b : NetworkValue} → Onward l m → LetsGo a b l m → Goes a b before after
-  goes_gone {a} {b} o s = goes_side o (goes_accounts framing asking ended closing l m a b s)
+  goes_gone {a} {b} o s = goes_side o (goes_accounts framing asking ended rest l m a b s)
 
-  pub admits_one : {a b : NetworkValue} → Onward l m → TakesIn a b l m → Admits 1 a b before after
+  pub admits_one : {a b : NetworkValue} → Onward l m → TakesIn a b l m → Admits 1 [] a b before after
   admits_one {a} {b} o s = record {
-    on = λ u c. continues_then u before after c (continues_side framing asking ended closing l m (o.on l (grow.continues_same l)));
-    accounts = admits_accounts framing asking ended closing l m a b s;
+    on = λ u c. continues_then u before after c (continues_side framing asking ended rest l m (o.on l (grow.continues_same l)));
+    accounts = admits_accounts framing asking ended rest l m a b s;
     drained = o.drained;
   }
 
   -- .. it was told to drain
-  pub drains_so : Continues l m → IsStill l m → (ContinuesLoop before after) × ((a : NetworkValue) → AccountsOn 0 a a before after)
-  drains_so c s = (continues_side framing asking ended closing l m c, λ a u f. subst (λ (x : Account). AccountsFor x a after) (sym (dealt_none u)) (still_accounts framing asking ended closing l m a s u f))
+  pub drains_so : Continues l m → IsStill l m → (ContinuesLoop before after) × ((a : NetworkValue) → AccountsOn 0 [] a a before after)
+  drains_so c s = (continues_side framing asking ended rest l m c, λ a u f. subst (λ (x : Account). AccountsFor x a after) (sym (more_none u)) (still_accounts framing asking ended rest l m a s u f))
 
 -- streams that waited were closed
-pub goes_closes : {a b : NetworkValue} (framing : Framing) (l : LoopValue) (asking : List (Option AskingState)) (ended : List (AskingState × Option Outcome)) (closing closing' : List ClosedValue) → ClosesFrom a b closing closing'
-    → Goes a b (whole_loop framing l asking ended closing) (whole_loop framing l asking ended closing')
-goes_closes {a} {b} framing l asking ended closing closing' c =
-    moves (whole_loop framing l asking ended closing) (whole_loop framing l asking ended closing')
-    record { framing = refl; side = grow.continues_same l; asking = λ i x is. (x, inl is, asks_same x); ended = prefix-refl (whole_loop framing l asking ended closing).ended }
-    (closes_accounts framing l asking ended closing closing' a b c) refl
+pub goes_closes : {a b : NetworkValue} (framing : Framing) (l : LoopValue) (asking : List (Option AskingState)) (ended : List (AskingState × Option Outcome)) (rest : Beside) (closing : List ClosedValue) → ClosesFrom a b rest.closing closing
+    → Goes a b (whole_loop framing l asking ended rest) (whole_loop framing l asking ended (beside closing rest.looked_up))
+goes_closes {a} {b} framing l asking ended rest closing c =
+    moves (whole_loop framing l asking ended rest) (whole_loop framing l asking ended (beside closing rest.looked_up))
+    record { framing = refl; side = grow.continues_same l; asking = λ i x is. (x, inl is, asks_same x); ended = prefix-refl (whole_loop framing l asking ended rest).ended; looked_up = prefix-refl rest.looked_up }
+    (closes_accounts framing l asking ended rest closing a b c) refl
+
+-- a name was looked up
+pub admits_found : (framing : Framing) (l : LoopValue) (asking : List (Option AskingState)) (ended : List (AskingState × Option Outcome)) (rest : Beside) (later : List FoundValue) (one : FoundValue) → later ≡ rest.looked_up ++ one ∷ []
+    → (a : NetworkValue) → Admits 0 (one ∷ []) a a (whole_loop framing l asking ended rest) (whole_loop framing l asking ended (beside rest.closing later))
+admits_found framing l asking ended rest later one is a = record {
+  on = λ u c. continues_then u (whole_loop framing l asking ended rest) (whole_loop framing l asking ended (beside rest.closing later)) c
+      record { framing = refl; side = grow.continues_same l; asking = λ i x at. (x, inl at, asks_same x); ended = prefix-refl (whole_loop framing l asking ended rest).ended; looked_up = (one ∷ [], is) };
+  accounts = λ u f. found_accounts framing l asking ended rest later one a is u f;
+  drained = refl;
+}
 
 module _ (old new : List (Option AskingState)) (i : ℕ) where
   -- what stands elsewhere stands there still
@@ -219,9 +243,9 @@ module _ (old new : List (Option AskingState)) (i : ℕ) where
   stands_at : (y : AskingState) (j : ℕ) → Put old new i (Some y) → j ≡ i → asked_at j (map (λ (s : Option AskingState). show_slot s) new) ≡ Some (asked_for y)
   stands_at y j put same = shown_at new j ∙ ap (λ (s : Option AskingState). show_slot s) (ap (λ (n : ℕ). slice_index_or new n None) same ∙ put.here)
 
-  continues_put : (framing : Framing) (v : LoopValue) (ended : List (AskingState × Option Outcome)) (closing : List ClosedValue) (x y : AskingState) → slice_index_or old i None ≡ Some x → Put old new i (Some y)
-      → AsksOn (asked_for x) (asked_for y) → ContinuesLoop (whole_loop framing v old ended closing) (whole_loop framing v new ended closing)
-  continues_put framing v ended closing x y was put on = record {
+  continues_put : (framing : Framing) (v : LoopValue) (ended : List (AskingState × Option Outcome)) (rest : Beside) (x y : AskingState) → slice_index_or old i None ≡ Some x → Put old new i (Some y)
+      → AsksOn (asked_for x) (asked_for y) → ContinuesLoop (whole_loop framing v old ended rest) (whole_loop framing v new ended rest)
+  continues_put framing v ended rest x y was put on = record {
     framing = refl;
     side = grow.continues_same v;
     asking = λ j z is.
@@ -230,26 +254,27 @@ module _ (old new : List (Option AskingState)) (i : ℕ) where
         (asked_for y, inl (stands_at y j put same), subst (λ (t : AskingValue). AsksOn t (asked_for y)) (some_asked (asked_for x) z (stood_at (Some x) j z was same is)) on))
         (λ (other : j ≡ i → ⊥). (z, inl (stays_at (Some y) j z put other is), asks_same z))
         (cases_eq j i);
-    ended = prefix-refl (whole_loop framing v old ended closing).ended;
+    ended = prefix-refl (whole_loop framing v old ended rest).ended;
+    looked_up = prefix-refl rest.looked_up;
   }
 
   -- one of them went on over the same streams
-  pub goes_put : (framing : Framing) (v : LoopValue) (ended : List (AskingState × Option Outcome)) (closing : List ClosedValue) (x y : AskingState) → slice_index_or old i None ≡ Some x → Put old new i (Some y)
-      → AsksOn (asked_for x) (asked_for y) → HasStreamsOf (asked_for x) (asked_for y) → (a : NetworkValue) → Goes a a (whole_loop framing v old ended closing) (whole_loop framing v new ended closing)
-  goes_put framing v ended closing x y was put on same a =
-      moves (whole_loop framing v old ended closing) (whole_loop framing v new ended closing) (continues_put framing v ended closing x y was put on) (put_accounts framing v v old new ended closing i a x y was put same) refl
+  pub goes_put : (framing : Framing) (v : LoopValue) (ended : List (AskingState × Option Outcome)) (rest : Beside) (x y : AskingState) → slice_index_or old i None ≡ Some x → Put old new i (Some y)
+      → AsksOn (asked_for x) (asked_for y) → HasStreamsOf (asked_for x) (asked_for y) → (a : NetworkValue) → Goes a a (whole_loop framing v old ended rest) (whole_loop framing v new ended rest)
+  goes_put framing v ended rest x y was put on same a =
+      moves (whole_loop framing v old ended rest) (whole_loop framing v new ended rest) (continues_put framing v ended rest x y was put on) (put_accounts framing v v old new ended rest i a x y was put same) refl
 
   -- .. over these or another
-  pub goes_over : {a b : NetworkValue} (framing : Framing) (v : LoopValue) (ended : List (AskingState × Option Outcome)) (closing : List ClosedValue) (x y : AskingState) → slice_index_or old i None ≡ Some x → Put old new i (Some y)
-      → AsksOn (asked_for x) (asked_for y) → Connects a b (asked_for x) (asked_for y) → Goes a b (whole_loop framing v old ended closing) (whole_loop framing v new ended closing)
-  goes_over {a} {b} framing v ended closing x y was put on connects =
-      moves (whole_loop framing v old ended closing) (whole_loop framing v new ended closing) (continues_put framing v ended closing x y was put on) (connects_accounts framing v v old new ended closing i a b x y was put connects) refl
+  pub goes_over : {a b : NetworkValue} (framing : Framing) (v : LoopValue) (ended : List (AskingState × Option Outcome)) (rest : Beside) (x y : AskingState) → slice_index_or old i None ≡ Some x → Put old new i (Some y)
+      → AsksOn (asked_for x) (asked_for y) → Connects a b (asked_for x) (asked_for y) → Goes a b (whole_loop framing v old ended rest) (whole_loop framing v new ended rest)
+  goes_over {a} {b} framing v ended rest x y was put on connects =
+      moves (whole_loop framing v old ended rest) (whole_loop framing v new ended rest) (continues_put framing v ended rest x y was put on) (connects_accounts framing v v old new ended rest i a b x y was put connects) refl
 
   -- .. began
-  pub goes_begin : (framing : Framing) (v w : LoopValue) (ended : List (AskingState × Option Outcome)) (closing : List ClosedValue) (y : AskingState) → Onward v w → IsStill v w → slice_index_or old i None ≡ None
-      → Put old new i (Some y) → (asked_for y).tried ≡ [] → (asked_for y).peer ≡ None → (a : NetworkValue) → Goes a a (whole_loop framing v old ended closing) (whole_loop framing w new ended closing)
-  goes_begin framing v w ended closing y o still free put none alone a =
-      moves (whole_loop framing v old ended closing) (whole_loop framing w new ended closing) record {
+  pub goes_begin : (framing : Framing) (v w : LoopValue) (ended : List (AskingState × Option Outcome)) (rest : Beside) (y : AskingState) → Onward v w → IsStill v w → slice_index_or old i None ≡ None
+      → Put old new i (Some y) → (asked_for y).tried ≡ [] → (asked_for y).peer ≡ None → (a : NetworkValue) → Goes a a (whole_loop framing v old ended rest) (whole_loop framing w new ended rest)
+  goes_begin framing v w ended rest y o still free put none alone a =
+      moves (whole_loop framing v old ended rest) (whole_loop framing w new ended rest) record {
         framing = refl;
         side = o.on v (grow.continues_same v);
         asking = λ j z is.
@@ -257,19 +282,20 @@ module _ (old new : List (Option AskingState)) (i : ℕ) where
             (λ (same : j ≡ i). absurd (none_asked z (stood_at None j z free same is)))
             (λ (other : j ≡ i → ⊥). (z, inl (stays_at (Some y) j z put other is), asks_same z))
             (cases_eq j i);
-        ended = prefix-refl (whole_loop framing v old ended closing).ended;
+        ended = prefix-refl (whole_loop framing v old ended rest).ended;
+        looked_up = prefix-refl rest.looked_up;
       }
-      (begin_accounts framing v w old new ended closing i a y still free put none alone) o.drained
+      (begin_accounts framing v w old new ended rest i a y still free put none alone) o.drained
 
   -- .. ended
-  pub goes_ended : {a b : NetworkValue} (framing : Framing) (v w : LoopValue) (ended ended' : List (AskingState × Option Outcome)) (closing closing' streams : List ClosedValue) (x y : AskingState) (end : Option Outcome) → Onward v w → IsStill v w
+  pub goes_ended : {a b : NetworkValue} (framing : Framing) (v w : LoopValue) (ended ended' : List (AskingState × Option Outcome)) (rest : Beside) (closing' streams : List ClosedValue) (x y : AskingState) (end : Option Outcome) → Onward v w → IsStill v w
       → slice_index_or old i None ≡ Some x → Put old new i None → ended' ≡ ended ++ (y, end) ∷ [] → AsksOn (asked_for x) (asked_for y) → HasStreamsOf (asked_for x) (asked_for y)
-      → streams ≡ stream_now (asked_for y) → ClosesFrom a b (streams ++ closing) closing'
-      → Goes a b (whole_loop framing v old ended closing) (whole_loop framing w new ended' closing')
-  goes_ended {a} {b} framing v w ended ended' closing closing' streams x y end o still was put is_now on same stream closes =
+      → streams ≡ stream_now (asked_for y) → ClosesFrom a b (streams ++ rest.closing) closing'
+      → Goes a b (whole_loop framing v old ended rest) (whole_loop framing w new ended' (beside closing' rest.looked_up))
+  goes_ended {a} {b} framing v w ended ended' rest closing' streams x y end o still was put is_now on same stream closes =
       let show : AskingState × Option Outcome → EndedValue = λ (d : AskingState × Option Outcome). ended_value (asked_for d.0) d.1 in
       let more : map show ended' ≡ map show ended ++ show (y, end) ∷ [] = ap (map show) is_now ∙ map-append show ended ((y, end) ∷ []) in
-      moves (whole_loop framing v old ended closing) (whole_loop framing w new ended' closing') record {
+      moves (whole_loop framing v old ended rest) (whole_loop framing w new ended' (beside closing' rest.looked_up)) record {
         framing = refl;
         side = o.on v (grow.continues_same v);
         asking = λ j z is.
@@ -279,8 +305,9 @@ module _ (old new : List (Option AskingState)) (i : ℕ) where
             (λ (other : j ≡ i → ⊥). (z, inl (stays_at None j z put other is), asks_same z))
             (cases_eq j i);
         ended = (show (y, end) ∷ [], more);
+        looked_up = prefix-refl rest.looked_up;
       }
-      (end_accounts framing v w old new ended closing i a b x y end ended' closing' streams still was put same is_now stream closes) o.drained
+      (end_accounts framing v w old new ended rest i a b x y end ended' closing' streams still was put same is_now stream closes) o.drained
 
 pub ticked_on : (u v w : WholeLoop) → HasTicked u.side v.side → ContinuesLoop v w → HasTicked u.side w.side
 ticked_on u v w t c =
@@ -313,24 +340,50 @@ count_put p old new i o n was put = grind (arith, nat_tests, sum_put)
 -- ---- what is kept
 
 -- the exchanges are the same
-pub keeps_asking : (v w : WholeLoop) → w.framing ≡ v.framing → HandsNothing v.side w.side → w.asking ≡ v.asking → w.ended ≡ v.ended → AsksFairly v → AsksFairly w
-keeps_asking v w framing none asking ended a = record {
+pub keeps_asking : (v w : WholeLoop) → w.framing ≡ v.framing → HandsNothing v.side w.side → w.asking ≡ v.asking → w.ended ≡ v.ended → w.looked_up ≡ v.looked_up → AsksFairly v → AsksFairly w
+keeps_asking v w framing none asking ended looked a = record {
   results = none.no_result ∙ a.results ∙ ap (map (λ (e : EndedValue). (e.asking.job, e.outcome))) (sym ended);
   fair = subst (λ (l : List EndedValue). All (IsFair w.framing) l) (sym ended) (subst (λ (f : Framing). All (IsFair f) v.ended) (sym framing) a.fair);
   begun = λ i x is. a.begun i x (ap (λ l. asked_at i l) (sym asking) ∙ is);
+  found = λ i x is. subst (λ (l : List FoundValue). AreOfName x.job.address x.found l) (sym looked) (a.found i x (ap (λ l. asked_at i l) (sym asking) ∙ is));
+  found_ended = subst (λ (l : List EndedValue). All (λ (e : EndedValue). AreOfName e.asking.job.address e.asking.found w.looked_up) l) (sym ended)
+      (subst (λ (l : List FoundValue). All (λ (e : EndedValue). AreOfName e.asking.job.address e.asking.found l) v.ended) (sym looked) a.found_ended);
   jobs = λ p. ap (count_by p) none.no_job ∙ a.jobs p ∙ ap (λ l. count_by (λ (e : EndedValue). p e.asking.job) l + count_asked p v.asking) (sym ended)
       ∙ ap (λ l. count_by (λ (e : EndedValue). p e.asking.job) w.ended + count_asked p l) (sym asking);
 }
 
--- where one place changed, each begins its request if what stands there does
-begun_put : (old new : List (Option AskingState)) (i : ℕ) (o : Option AskingState) → Put old new i o → ((x : AskingValue) → show_slot o ≡ Some x → BeginsRequest x)
-    → ((j : ℕ) (x : AskingValue) → asked_at j (map (λ (s : Option AskingState). show_slot s) old) ≡ Some x → BeginsRequest x)
-    → (j : ℕ) (x : AskingValue) → asked_at j (map (λ (s : Option AskingState). show_slot s) new) ≡ Some x → BeginsRequest x
-begun_put old new i o put own before j x is =
+-- where one place changed, each is so if what stands there is
+each_put : (P : AskingValue → Type 0) (old new : List (Option AskingState)) (i : ℕ) (o : Option AskingState) → Put old new i o → ((x : AskingValue) → show_slot o ≡ Some x → P x)
+    → ((j : ℕ) (x : AskingValue) → asked_at j (map (λ (s : Option AskingState). show_slot s) old) ≡ Some x → P x)
+    → (j : ℕ) (x : AskingValue) → asked_at j (map (λ (s : Option AskingState). show_slot s) new) ≡ Some x → P x
+each_put P old new i o put own before j x is =
     ⊎_elim
     (λ (same : j ≡ i). own x (stood_at new new i o j x put.here same is))
     (λ (other : j ≡ i → ⊥). before j x (shown_at old j ∙ ap (λ (s : Option AskingState). show_slot s) (sym (put.there j other)) ∙ sym (shown_at new j) ∙ is))
     (cases_eq j i)
+
+-- what was found for it was found for its name
+abbrev IsNamed : List FoundValue → AskingValue → Type 0
+IsNamed looked x = AreOfName x.job.address x.found looked
+
+named_by : (looked : List FoundValue) (y : AskingState) → IsNamed looked (asked_for y) → (x : AskingValue) → show_slot (Some y) ≡ Some x → IsNamed looked x
+named_by looked y named x is = subst (λ (t : AskingValue). IsNamed looked t) (some_asked (asked_for y) x is) named
+
+-- .. where that is the same as before
+named_same : (looked : List FoundValue) (x y : AskingState) → y.job ≡ x.job → y.addresses.found ≡ x.addresses.found → IsNamed looked (asked_for x) → IsNamed looked (asked_for y)
+named_same looked x y job found named =
+    subst (λ (l : List SocketAddr). AreOfName y.job.job.address l looked) (sym found) (subst (λ (j : HandedJob). AreOfName j.job.address x.addresses.found looked) (sym job) named)
+
+-- .. or was found just now
+pub named_found : (looked : List FoundValue) (x y : AskingState) (one : FoundValue) (more : List SocketAddr) → (y ≡ x) ⊎ (x.job.job.address ≡ one.name) → Finds one.name more x y → Contains looked one → more ≡ take 32 one.addresses
+    → IsNamed looked (asked_for x) → IsNamed looked (asked_for y)
+named_found looked x y one more own finds there first named =
+    ⊎_elim (λ (same : y ≡ x). subst (λ (t : AskingState). IsNamed looked (asked_for t)) (sym same) named)
+    (λ (its : x.job.job.address ≡ one.name). subst (λ (t : AskingState). IsNamed looked (asked_for t)) (sym (finds.0 its)) (by_it its x.addresses.known)) own
+  where
+    by_it : x.job.job.address ≡ one.name → (b : Bool) → AreOfName x.job.job.address (if b then x.addresses else addresses_value x.addresses.first more true more).found looked
+    by_it its true = named
+    by_it its false = inr record { one = one; there = there; its_name = sym its; first = first }
 
 begun_by : (y : AskingState) → BeginsRequest (asked_for y) → (x : AskingValue) → show_slot (Some y) ≡ Some x → BeginsRequest x
 begun_by y begun x is = subst (λ (t : AskingValue). BeginsRequest t) (some_asked (asked_for y) x is) begun
@@ -357,68 +410,93 @@ HasUntouched y = y.attempt.connected ≡ false → y.attempt.got ≡ []
 framed_by : (framing : Framing) (y : AskingState) → y.framing ≡ framing → HasUntouched y → (x : AskingState) → Some y ≡ Some x → IsFramed framing x
 framed_by framing y framed untouched x is = subst (λ (t : AskingState). IsFramed framing t) (some_state y x is) ((framed, untouched))
 
--- what holds of a loop with these clients, jobs and ends, whatever streams wait to be closed
-abbrev pub Keeps : Framing → LoopValue → List (Option AskingState) → List (AskingState × Option Outcome) → Type 0
-Keeps framing v asking ended = AsksFairly (whole_loop framing v asking ended []) × AreFramed framing asking
+-- what holds of a loop with these clients, jobs and ends, and what was found, whatever streams wait to be closed
+abbrev pub Keeps : Framing → List FoundValue → LoopValue → List (Option AskingState) → List (AskingState × Option Outcome) → Type 0
+Keeps framing looked v asking ended = AsksFairly (whole_loop framing v asking ended (beside [] looked)) × AreFramed framing asking
 
--- one of them went on with its job
-pub keeps_put : (framing : Framing) (v : LoopValue) (old new : List (Option AskingState)) (ended : List (AskingState × Option Outcome)) (i : ℕ) (x y : AskingState)
-    → slice_index_or old i None ≡ Some x → y.job ≡ x.job → y.framing ≡ x.framing → Put old new i (Some y) → BeginsRequest (asked_for y) → HasUntouched y
-    → Keeps framing v old ended → Keeps framing v new ended
-keeps_put framing v old new ended i x y was job framed put begun untouched k = (
+-- one of them went on with its job, and what was found for it is of its name
+pub keeps_own : (framing : Framing) (looked : List FoundValue) (v : LoopValue) (old new : List (Option AskingState)) (ended : List (AskingState × Option Outcome)) (i : ℕ) (x y : AskingState)
+    → slice_index_or old i None ≡ Some x → y.job ≡ x.job → y.framing ≡ x.framing → Put old new i (Some y) → BeginsRequest (asked_for y) → HasUntouched y → AreOfName y.job.job.address y.addresses.found looked
+    → Keeps framing looked v old ended → Keeps framing looked v new ended
+keeps_own framing looked v old new ended i x y was job framed put begun untouched named k = (
   record {
     results = k.0.results;
     fair = k.0.fair;
-    begun = begun_put old new i (Some y) put (begun_by y begun) k.0.begun;
+    begun = each_put (λ (z : AskingValue). BeginsRequest z) old new i (Some y) put (begun_by y begun) k.0.begun;
+    found = each_put (IsNamed looked) old new i (Some y) put (named_by looked y named) k.0.found;
+    found_ended = k.0.found_ended;
     jobs = λ p.
         let count = count_put p old new i (Some x) (Some y) was put in
         let same : one_asked p (Some y) ≡ one_asked p (Some x) = ap (λ (j : HandedJob). cond (p j.job) 1 0) job in
         let is : sum_by (one_asked p) new ≡ sum_by (one_asked p) old = omega (arith, count, same) in
-        k.0.jobs p ∙ ap (λ n. count_by (λ (e : EndedValue). p e.asking.job) (whole_loop framing v old ended []).ended + n) (shown_count p old ∙ sym is ∙ sym (shown_count p new));
+        k.0.jobs p ∙ ap (λ n. count_by (λ (e : EndedValue). p e.asking.job) (whole_loop framing v old ended (beside [] looked)).ended + n) (shown_count p old ∙ sym is ∙ sym (shown_count p new));
   },
   framed_put framing old new i (Some y) put (framed_by framing y (framed ∙ (k.1 i x was).0) untouched) k.1,
 )
+
+named_at : (framing : Framing) (looked : List FoundValue) (v : LoopValue) (old : List (Option AskingState)) (ended : List (AskingState × Option Outcome)) (i : ℕ) (x : AskingState) → slice_index_or old i None ≡ Some x → Keeps framing looked v old ended
+    → AreOfName x.job.job.address x.addresses.found looked
+named_at framing looked v old ended i x was k = k.0.found i (asked_for x) (shown_at old i ∙ ap (λ (t : Option AskingState). show_slot t) was)
+
+-- .. with what was found before
+pub keeps_put : (framing : Framing) (looked : List FoundValue) (v : LoopValue) (old new : List (Option AskingState)) (ended : List (AskingState × Option Outcome)) (i : ℕ) (x y : AskingState)
+    → slice_index_or old i None ≡ Some x → y.job ≡ x.job → y.framing ≡ x.framing → y.addresses.found ≡ x.addresses.found → Put old new i (Some y) → BeginsRequest (asked_for y) → HasUntouched y
+    → Keeps framing looked v old ended → Keeps framing looked v new ended
+keeps_put framing looked v old new ended i x y was job framed found put begun untouched k =
+    keeps_own framing looked v old new ended i x y was job framed put begun untouched (named_same looked x y job found (named_at framing looked v old ended i x was k)) k
 
 pub same_streams : (x y : AskingState) → y.tried ≡ x.tried → y.attempt.peer ≡ x.attempt.peer → HasStreamsOf (asked_for x) (asked_for y)
 same_streams x y tried peer = record { tried = tried; peer = peer }
 
 -- one of them was taken out, went on with its job, and was put back
-module _ (framing : Framing) (v : LoopValue) (ended : List (AskingState × Option Outcome)) {s t u : Slab AskingState} {i key : ℕ} {x y : AskingState} where
-  pub goes_back : (closing : List ClosedValue) → Updates s t i None → t.vacant_key ≡ i → key ≡ t.vacant_key → Updates t u key (Some y) → slice_index_or s.slots i None ≡ Some x
-      → AsksOn (asked_for x) (asked_for y) → HasStreamsOf (asked_for x) (asked_for y) → (a : NetworkValue) → Goes a a (whole_loop framing v s.slots ended closing) (whole_loop framing v u.slots ended closing)
-  goes_back closing out next is back was on same = goes_put s.slots u.slots i framing v ended closing x y was (put_back s t u i key y out next is back) on same
+module _ (framing : Framing) (looked : List FoundValue) (v : LoopValue) (ended : List (AskingState × Option Outcome)) {s t u : Slab AskingState} {i key : ℕ} {x y : AskingState} where
+  pub goes_back : (rest : Beside) → Updates s t i None → t.vacant_key ≡ i → key ≡ t.vacant_key → Updates t u key (Some y) → slice_index_or s.slots i None ≡ Some x
+      → AsksOn (asked_for x) (asked_for y) → HasStreamsOf (asked_for x) (asked_for y) → (a : NetworkValue) → Goes a a (whole_loop framing v s.slots ended rest) (whole_loop framing v u.slots ended rest)
+  goes_back rest out next is back was on same = goes_put s.slots u.slots i framing v ended rest x y was (put_back s t u i key y out next is back) on same
 
-  pub over_back : {a b : NetworkValue} (closing : List ClosedValue) → Updates s t i None → t.vacant_key ≡ i → key ≡ t.vacant_key → Updates t u key (Some y) → slice_index_or s.slots i None ≡ Some x
-      → AsksOn (asked_for x) (asked_for y) → Connects a b (asked_for x) (asked_for y) → Goes a b (whole_loop framing v s.slots ended closing) (whole_loop framing v u.slots ended closing)
-  over_back {a} {b} closing out next is back was on connects = goes_over s.slots u.slots i framing v ended closing x y was (put_back s t u i key y out next is back) on connects
+  pub over_back : {a b : NetworkValue} (rest : Beside) → Updates s t i None → t.vacant_key ≡ i → key ≡ t.vacant_key → Updates t u key (Some y) → slice_index_or s.slots i None ≡ Some x
+      → AsksOn (asked_for x) (asked_for y) → Connects a b (asked_for x) (asked_for y) → Goes a b (whole_loop framing v s.slots ended rest) (whole_loop framing v u.slots ended rest)
+  over_back {a} {b} rest out next is back was on connects = goes_over s.slots u.slots i framing v ended rest x y was (put_back s t u i key y out next is back) on connects
 
   pub keeps_back : Updates s t i None → t.vacant_key ≡ i → key ≡ t.vacant_key → Updates t u key (Some y) → slice_index_or s.slots i None ≡ Some x
-      → y.job ≡ x.job → y.framing ≡ x.framing → BeginsRequest (asked_for y) → HasUntouched y → Keeps framing v s.slots ended → Keeps framing v u.slots ended
-  keeps_back out next is back was job framed begun untouched a = keeps_put framing v s.slots u.slots ended i x y was job framed (put_back s t u i key y out next is back) begun untouched a
+      → y.job ≡ x.job → y.framing ≡ x.framing → y.addresses.found ≡ x.addresses.found → BeginsRequest (asked_for y) → HasUntouched y → Keeps framing looked v s.slots ended → Keeps framing looked v u.slots ended
+  keeps_back out next is back was job framed found begun untouched a = keeps_put framing looked v s.slots u.slots ended i x y was job framed found (put_back s t u i key y out next is back) begun untouched a
+
+  -- .. and more was found for it
+  pub finds_back : Updates s t i None → t.vacant_key ≡ i → key ≡ t.vacant_key → Updates t u key (Some y) → slice_index_or s.slots i None ≡ Some x
+      → y.job ≡ x.job → y.framing ≡ x.framing → (one : FoundValue) (more : List SocketAddr) → (y ≡ x) ⊎ (x.job.job.address ≡ one.name) → Finds one.name more x y → Contains looked one → more ≡ take 32 one.addresses
+      → BeginsRequest (asked_for y) → HasUntouched y → Keeps framing looked v s.slots ended → Keeps framing looked v u.slots ended
+  finds_back out next is back was job framed one more own finds there first begun untouched a =
+      keeps_own framing looked v s.slots u.slots ended i x y was job framed (put_back s t u i key y out next is back) begun untouched
+      (named_found looked x y one more own finds there first (named_at framing looked v s.slots ended i x was a)) a
 
 -- where no job waits, nothing was taken
-pub takes_none : (framing : Framing) (v w : LoopValue) (old new : List (Option AskingState)) (ended : List (AskingState × Option Outcome))
-    → w.results ≡ v.results → w.handed ≡ v.handed ++ [] → new ≡ old → Keeps framing v old ended → Keeps framing w new ended
-takes_none framing v w old new ended same more slots k =
-    subst (λ (now : List (Option AskingState)). Keeps framing w now ended) (sym slots) (
+pub takes_none : (framing : Framing) (looked : List FoundValue) (v w : LoopValue) (old new : List (Option AskingState)) (ended : List (AskingState × Option Outcome))
+    → w.results ≡ v.results → w.handed ≡ v.handed ++ [] → new ≡ old → Keeps framing looked v old ended → Keeps framing looked w new ended
+takes_none framing looked v w old new ended same more slots k =
+    subst (λ (now : List (Option AskingState)). Keeps framing looked w now ended) (sym slots) (
       record {
         results = same ∙ k.0.results;
         fair = k.0.fair;
         begun = k.0.begun;
+        found = k.0.found;
+        found_ended = k.0.found_ended;
         jobs = λ p. ap (count_by p) (more ∙ append-nil v.handed) ∙ k.0.jobs p;
       },
       k.1,
     )
 
 -- a job was taken, and is asked for
-pub takes_job : (framing : Framing) (v w : LoopValue) (old new : List (Option AskingState)) (ended : List (AskingState × Option Outcome)) (i : ℕ) (y : AskingState) (j : JobValue)
-    → w.results ≡ v.results → w.handed ≡ v.handed ++ j ∷ [] → y.job.job ≡ j → y.framing ≡ framing → slice_index_or old i None ≡ None → Put old new i (Some y)
-    → BeginsRequest (asked_for y) → HasUntouched y → Keeps framing v old ended → Keeps framing w new ended
-takes_job framing v w old new ended i y j same more job framed free put begun untouched k = (
+pub takes_job : (framing : Framing) (looked : List FoundValue) (v w : LoopValue) (old new : List (Option AskingState)) (ended : List (AskingState × Option Outcome)) (i : ℕ) (y : AskingState) (j : JobValue)
+    → w.results ≡ v.results → w.handed ≡ v.handed ++ j ∷ [] → y.job.job ≡ j → y.framing ≡ framing → y.addresses.found ≡ [] → slice_index_or old i None ≡ None → Put old new i (Some y)
+    → BeginsRequest (asked_for y) → HasUntouched y → Keeps framing looked v old ended → Keeps framing looked w new ended
+takes_job framing looked v w old new ended i y j same more job framed none free put begun untouched k = (
   record {
     results = same ∙ k.0.results;
     fair = k.0.fair;
-    begun = begun_put old new i (Some y) put (begun_by y begun) k.0.begun;
+    begun = each_put (λ (z : AskingValue). BeginsRequest z) old new i (Some y) put (begun_by y begun) k.0.begun;
+    found = each_put (IsNamed looked) old new i (Some y) put (named_by looked y (inl none)) k.0.found;
+    found_ended = k.0.found_ended;
     jobs = λ p.
         let count = count_put p old new i None (Some y) free put in
         let own : one_asked p (Some y) ≡ cond (p j) 1 0 = ap (λ (k : JobValue). cond (p k) 1 0) job in
@@ -433,10 +511,10 @@ takes_job framing v w old new ended i y j same more job framed free put begun un
 )
 
 -- one of them ended, and its result was handed in
-pub ends_one : (framing : Framing) (v w : LoopValue) (old new : List (Option AskingState)) (ended ended' : List (AskingState × Option Outcome)) (i : ℕ) (x y : AskingState) (o : Option Outcome) (j : HandedJob)
-    → w.results ≡ v.results ++ (j.job, o) ∷ [] → w.handed ≡ v.handed → slice_index_or old i None ≡ Some x → y.job ≡ x.job → y.framing ≡ x.framing → j ≡ y.job → Put old new i None
-    → ended' ≡ ended ++ (y, o) ∷ [] → IsFair y.framing (ended_value (asked_for y) o) → Keeps framing v old ended → Keeps framing w new ended'
-ends_one framing v w old new ended ended' i x y o j results same was job framed own put more fair k =
+pub ends_one : (framing : Framing) (looked : List FoundValue) (v w : LoopValue) (old new : List (Option AskingState)) (ended ended' : List (AskingState × Option Outcome)) (i : ℕ) (x y : AskingState) (o : Option Outcome) (j : HandedJob)
+    → w.results ≡ v.results ++ (j.job, o) ∷ [] → w.handed ≡ v.handed → slice_index_or old i None ≡ Some x → y.job ≡ x.job → y.framing ≡ x.framing → y.addresses.found ≡ x.addresses.found → j ≡ y.job → Put old new i None
+    → ended' ≡ ended ++ (y, o) ∷ [] → IsFair y.framing (ended_value (asked_for y) o) → Keeps framing looked v old ended → Keeps framing looked w new ended'
+ends_one framing looked v w old new ended ended' i x y o j results same was job framed found own put more fair k =
     let show : AskingState × Option Outcome → EndedValue = λ (d : AskingState × Option Outcome). ended_value (asked_for d.0) d.1 in
     let shown : map show ended' ≡ map show ended ++ show (y, o) ∷ [] = ap (map show) more ∙ map-append show ended ((y, o) ∷ []) in
     let pair : EndedValue → JobValue × Option Outcome = λ (e : EndedValue). (e.asking.job, e.outcome) in (
@@ -449,7 +527,11 @@ ends_one framing v w old new ended ended' i x y o j results same was job framed 
         fair =
             subst (All (IsFair framing)) (sym shown)
             (All-push (IsFair framing) (map show ended) (show (y, o)) k.0.fair (subst (λ (f : Framing). IsFair f (show (y, o))) (framed ∙ (k.1 i x was).0) fair));
-        begun = begun_put old new i None put (λ (z : AskingValue) is. absurd (none_asked z is)) k.0.begun;
+        begun = each_put (λ (z : AskingValue). BeginsRequest z) old new i None put (λ (z : AskingValue) is. absurd (none_asked z is)) k.0.begun;
+        found = each_put (IsNamed looked) old new i None put (λ (z : AskingValue) is. absurd (none_asked z is)) k.0.found;
+        found_ended = subst (All (λ (e : EndedValue). IsNamed looked e.asking)) (sym shown)
+            (All-push (λ (e : EndedValue). IsNamed looked e.asking) (map show ended) (show (y, o)) k.0.found_ended
+            (named_same looked x y job found (k.0.found i (asked_for x) (shown_at old i ∙ ap (λ (t : Option AskingState). show_slot t) was))));
         jobs = λ p.
             let of_ended : EndedValue → Bool = λ (e : EndedValue). p e.asking.job in
             let count = count_put p old new i (Some x) None was put in
@@ -466,13 +548,40 @@ ends_one framing v w old new ended ended' i x y o j results same was job framed 
       framed_put framing old new i None put (λ (z : AskingState) is. absurd (none_state z is)) k.1,
     )
 
-pub starts_fair : (framing : Framing) (v : LoopValue) → v.results ≡ [] → v.handed ≡ [] → Keeps framing v [] []
-starts_fair framing v no_results none_handed = (fair, λ i x is. absurd (none_state x is))
+pub starts_fair : (framing : Framing) (looked : List FoundValue) (v : LoopValue) → v.results ≡ [] → v.handed ≡ [] → Keeps framing looked v [] []
+starts_fair framing looked v no_results none_handed = (fair, λ i x is. absurd (none_state x is))
   where
-    fair : AsksFairly (whole_loop framing v [] [] [])
+    fair : AsksFairly (whole_loop framing v [] [] (beside [] looked))
     fair = search arith
 
 -- .. and whichever those are
-pub fair_closing : (framing : Framing) (v : LoopValue) (asking : List (Option AskingState)) (ended : List (AskingState × Option Outcome)) (closing : List ClosedValue)
-    → AsksFairly (whole_loop framing v asking ended []) → AsksFairly (whole_loop framing v asking ended closing)
-fair_closing framing v asking ended closing a = record { results = a.results; fair = a.fair; begun = a.begun; jobs = a.jobs }
+pub fair_closing : (framing : Framing) (v : LoopValue) (asking : List (Option AskingState)) (ended : List (AskingState × Option Outcome)) (rest : Beside)
+    → AsksFairly (whole_loop framing v asking ended (beside [] rest.looked_up)) → AsksFairly (whole_loop framing v asking ended rest)
+fair_closing framing v asking ended rest a = record { results = a.results; fair = a.fair; begun = a.begun; found = a.found; found_ended = a.found_ended; jobs = a.jobs }
+
+-- what was found before stays so where more is
+pub fair_found : (framing : Framing) (v : LoopValue) (asking : List (Option AskingState)) (ended : List (AskingState × Option Outcome)) (looked later : List FoundValue) (one : FoundValue) → later ≡ looked ++ one ∷ []
+    → Keeps framing looked v asking ended → Keeps framing later v asking ended
+fair_found framing v asking ended looked later one is k = (
+  record {
+    results = k.0.results;
+    fair = k.0.fair;
+    begun = k.0.begun;
+    found = λ i x at. more_found x.job.address x.found (k.0.found i x at);
+    found_ended = All-weaker (λ (e : EndedValue). AreOfName e.asking.job.address e.asking.found looked) (λ (e : EndedValue). AreOfName e.asking.job.address e.asking.found later)
+        (λ (e : EndedValue) named. more_found e.asking.job.address e.asking.found named) (whole_loop framing v asking ended (beside [] looked)).ended k.0.found_ended;
+    jobs = k.0.jobs;
+  },
+  k.1,
+)
+  where
+    more_found : (name : List ℕ) (addresses : List SocketAddr) → AreOfName name addresses looked → AreOfName name addresses later
+    more_found name addresses named =
+        ⊎_elim (λ (none : addresses ≡ []). inl none)
+        (λ (f : AreFoundFor name addresses looked). inr record {
+          one = f.one;
+          there = subst (λ (l : List FoundValue). Contains l f.one) (sym is) (Contains-append_left looked (one ∷ []) f.one f.there);
+          its_name = f.its_name;
+          first = f.first;
+        })
+        named

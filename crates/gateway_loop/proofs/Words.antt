@@ -25,7 +25,7 @@ pub use Rattle.gateway_theory.specs.lemmas.PastLemmas.{prefix-refl, prefix-trans
 pub use Rattle.http_pieces.specs.declared.framing.Framing.{Framing}
 pub use Rattle.loop_model.specs.Asking.{StreamValue, BeginsRequest, AskingValue, EndedValue, IsFair, ended_value, IsUntouched, request_of, stream_value}
 pub use Rattle.loop_model.specs.Clients.{ClientValue, client_value, IsExplainedClient}
-pub use Rattle.loop_model.specs.Accounts.{Account, AccountsFor, AccountsOn, NetworkValue, with_dealt}
+pub use Rattle.loop_model.specs.Accounts.{Account, AccountsFor, AccountsOn, NetworkValue, with_more}
 pub use Rattle.loop_model.specs.Explained.{LoopValue, at, one_below, count_of, Explains}
 pub use Rattle.loop_model.specs.Histories.{Extends, GoesOn, IsExplained}
 pub use Rattle.loop_model.specs.Holding.{Fits, HasStood, Holds, HoldsRest, IsHeld, Stands}
@@ -38,6 +38,7 @@ pub use Rattle.branch_asking.specs.Addresses.{AddressesValue, AreOf, addresses_v
 pub use Rattle.branch_asking.specs.Asking.{AskingState, asked_for, Asks, HasGrown, AttemptValue, HadStream, HasBegun, HasEnded, IsUnsent, IsUntouchedAttempt, asking_state, attempt_value}
 pub use Rattle.gateway_loop.specs.Clients.{Leads, lingering, MakesSteps, Onward, IsQuiet, OpensNone, HandsNothing, Follows, IsServing, IsStill, IsStreamOf, FitsOn}
 pub use Rattle.gateway_loop.specs.Laws.{LoopLaws}
-pub use Rattle.gateway_loop.specs.Loop.{Admits, AreFramed, IsFramed, Goes, GoesAlone, whole_loop}
+pub use Rattle.gateway_loop.specs.Loop.{Admits, AreFramed, Beside, IsFramed, Goes, GoesAlone, beside, whole_loop}
+pub use Rattle.loop_model.specs.Found.{AreFoundFor, AreOfName, FoundValue}
 pub use Rattle.loop_model.specs.Reports.{changed_at, tell, tell_all, tell_in, told_asking, told_client}
 pub use Rattle.wires.specs.declared.ready.Ready.{Ready}

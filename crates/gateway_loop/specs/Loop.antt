@@ -6,17 +6,27 @@ use Rattle.loop_model.specs.Accounts.{Account, AccountsFor, AccountsOn, NetworkV
 use Rattle.loop_model.specs.Asking.{ended_value}
 use Rattle.loop_model.specs.Streams.{ClosedValue}
 use Rattle.loop_model.specs.Explained.{LoopValue}
+use Rattle.loop_model.specs.Found.{FoundValue}
 use Rattle.loop_model.specs.Whole.{ContinuesLoop, WholeLoop}
 use Rattle.branch_asking.specs.Asking.{AskingState, asked_for}
 use Rattle.gateway_loop.specs.Clients.{Starts}
 
-abbrev pub whole_loop : Framing → LoopValue → List (Option AskingState) → List (AskingState × Option Outcome) → List ClosedValue → WholeLoop
-whole_loop framing side asking ended closing = record {
+-- the streams that wait for their backends' ends, and what was found for names
+pub record Beside : Type 0 where
+  pub closing : List ClosedValue
+  pub looked_up : List FoundValue
+
+abbrev pub beside : List ClosedValue → List FoundValue → Beside
+beside closing looked_up = record { closing = closing; looked_up = looked_up }
+
+abbrev pub whole_loop : Framing → LoopValue → List (Option AskingState) → List (AskingState × Option Outcome) → Beside → WholeLoop
+whole_loop framing side asking ended beside = record {
   framing = framing;
   side = side;
   asking = map (λ (o : Option AskingState). option_map asked_for o) asking;
   ended = map (λ (e : AskingState × Option Outcome). ended_value (asked_for e.0) e.1) ended;
-  closing = closing;
+  closing = beside.closing;
+  looked_up = beside.looked_up;
 }
 
 -- the reply to it may be framed so, and nothing was written to a stream that has not taken a byte
@@ -33,6 +43,7 @@ pub record StartsLoop (w : WholeLoop) : Type 0 where
   pub none_asked : w.asking ≡ []
   pub none_ended : w.ended ≡ []
   pub none_closing : w.closing ≡ []
+  pub none_found : w.looked_up ≡ []
 
 -- What the one continues the other does too; what the network did between is accounted for; and it is told to drain if it was.
 pub record Goes (a b : NetworkValue) (v w : WholeLoop) : Type 0 where
@@ -44,8 +55,8 @@ pub record Goes (a b : NetworkValue) (v w : WholeLoop) : Type 0 where
 abbrev pub GoesAlone : WholeLoop → WholeLoop → Type 0
 GoesAlone v w = (a : NetworkValue) → Goes a a v w
 
--- .. where so many streams were dealt
-pub record Admits (dealt : ℕ) (a b : NetworkValue) (v w : WholeLoop) : Type 0 where
+-- .. where so many streams were dealt, and this was found and handed in
+pub record Admits (dealt : ℕ) (found : List FoundValue) (a b : NetworkValue) (v w : WholeLoop) : Type 0 where
   pub on : (u : WholeLoop) → ContinuesLoop u v → ContinuesLoop u w
-  pub accounts : AccountsOn dealt a b v w
+  pub accounts : AccountsOn dealt found a b v w
   pub drained : w.side.drained ≡ v.side.drained

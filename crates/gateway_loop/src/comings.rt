@@ -51,6 +51,31 @@ pub struct LookedUp {
     pub addresses: Vec<SocketAddr>,
 }
 
+impl Model for LookedUp {
+    ghost use Rattle.std.specs.Prelude.{string_bytes};
+    ghost use Rattle.loop_model.specs.Found.{FoundValue, found_value};
+
+    ghost Value = { FoundValue };
+
+    ghost view = { λ l. found_value (string_bytes l.name) l.addresses.items };
+}
+
+impl LookedUp {
+    /// The name, `host:port`.
+    pub(crate) fn name(&self) -> &str
+        ensures { result.now ≡ self.now.name }
+    {
+        self.name.as_str()
+    }
+
+    /// The addresses.
+    pub(crate) fn addresses(&self) -> &[SocketAddr]
+        ensures { result.now ≡ self.now.addresses }
+    {
+        self.addresses.as_slice()
+    }
+}
+
 /// What a wait brought. A turn takes all of it.
 #[derive(Drop)]
 pub struct Comings<H, W: Wire> {

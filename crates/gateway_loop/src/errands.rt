@@ -1,5 +1,6 @@
-ghost use Rattle.gateway_loop.specs.Loop.{Goes};
-ghost use Rattle.std.specs.Prelude.{◌≡◌};
+ghost use Rattle.gateway_loop.specs.Loop.{Admits, Goes};
+ghost use Rattle.std.specs.List.{Contains};
+ghost use Rattle.std.specs.Prelude.{◌≡◌, ◌∷◌, [], IfOk, take};
 
 use crate::comings::LookedUp;
 use crate::event_loop::EventLoop;
@@ -7,6 +8,7 @@ use crate::limits::{MOST_ADDRESSES, MOST_EXCHANGES};
 use branch_asking::{BranchEnd, Network, Progress};
 use branch_exchange::Loss;
 use gateway_core::{CallId, ReplyHook};
+use slab::Slab;
 use std::alloc::{AllocError, Global};
 use std::collections::VecDeque;
 use std::io::ErrorKind;
@@ -76,27 +78,42 @@ impl<H: ReplyHook + Drop, W: Wire + Drop> EventLoop<H, W> {
 
     /// Takes the names that were looked up.
     pub(crate) fn take_found<N: Network<W>>(&mut self, net: &mut N, found: &mut VecDeque<LookedUp>)
+        ensures goes { Admits 0 found.old.items (N.value net.old) (N.value net.new) self.old self.new }
+    {
+        while let Some(looked_up) = found.pop_front() {
+            self.take_name(net, &looked_up);
+        }
+    }
+
+    /// Takes a name that was looked up.
+    fn take_name<N: Network<W>>(&mut self, net: &mut N, looked_up: &LookedUp)
+        ensures goes { Admits 0 (looked_up.now ∷ []) (N.value net.old) (N.value net.new) self.old self.new }
+    {
+        self.exchanges.note_found(looked_up);
+        if let Some(places) = self.names.found(looked_up.name()) {
+            self.exchanges.stop_waits(&places);
+            self.go_all(net, &places, looked_up);
+        }
+    }
+
+    /// The name of the exchanges in these places was looked up.
+    fn go_all<N: Network<W>>(&mut self, net: &mut N, places: &Slab<usize>, looked_up: &LookedUp)
+        requires { Contains self.old.looked_up looked_up.now }
         ensures goes { Goes (N.value net.old) (N.value net.new) self.old self.new }
     {
-        for looked_up in found.drain(..) {
-            let Some(places) = self.names.found(looked_up.name.as_str()) else {
-                continue;
-            };
-            self.exchanges.stop_waits(&places);
-            for (_, place) in places.iter() {
-                self.go_to(net, *place, &looked_up);
-            }
+        for (_, place) in places.iter() {
+            self.go_to(net, *place, looked_up);
         }
     }
 
     /// The name of the exchange in that place was looked up.
     fn go_to<N: Network<W>>(&mut self, net: &mut N, place: usize, looked_up: &LookedUp)
+        requires { Contains self.old.looked_up looked_up.now }
         ensures goes { Goes (N.value net.old) (N.value net.new) self.old self.new }
     {
-        match first_of(self.alloc, looked_up.addresses.as_slice()) {
-            Ok(addresses) => {
-                self.exchanges
-                    .find(place, looked_up.name.as_str(), addresses);
+        match first_of(self.alloc, looked_up.addresses()) {
+            Ok(first) => {
+                self.exchanges.find(place, looked_up, first);
                 self.try_next(net, place, Loss::NoAddress);
             }
             Err(_) => self.lose(net, place, None),
@@ -271,9 +288,12 @@ fn tell_unasked<W: Wire, N: Network<W>>(net: &mut N, end: Option<BranchEnd>, is_
 }
 
 /// The first of the addresses.
-fn first_of(alloc: Global, addresses: &[SocketAddr]) -> Result<VecDeque<SocketAddr>, AllocError> {
-    let mut first = VecDeque::new(alloc);
-    for address in addresses.iter().take(MOST_ADDRESSES) {
+fn first_of(alloc: Global, addresses: &[SocketAddr]) -> Result<VecDeque<SocketAddr>, AllocError>
+    ensures { IfOk result (λ first. first.items ≡ take 32 addresses.now) }
+{
+    let some = &addresses[..addresses.len().min(MOST_ADDRESSES)];
+    let mut first = VecDeque::with_capacity(alloc, some.len())?;
+    for address in some {
         first.push_back(*address)?;
     }
     Ok(first)

@@ -1,4 +1,5 @@
-ghost use Rattle.std.specs.Prelude.{◌≡◌, [], IfOk, IsFalse, IsTrue, true};
+ghost use Rattle.std.specs.List.{Contains};
+ghost use Rattle.std.specs.Prelude.{◌≡◌, ◌∷◌, [], IfOk, IsFalse, IsTrue, take, true};
 ghost use Rattle.connect_codec.specs.declared.answer.Outcome.{Outcome};
 ghost use Rattle.gateway_loop.specs.Loop.{Admits, Goes, GoesAlone, StartsLoop};
 ghost use Rattle.gateway_loop.specs.Rests.{AllAskingRest, WaitsForPlace, is_watched_as, rests_asking};
@@ -14,7 +15,7 @@ ghost use Rattle.loop_model.specs.Whole.{ContinuesLoop, IsExplainedLoop};
 use crate::client::{Heard, Written};
 use crate::clients::Clients;
 use crate::closing::ClosingStreams;
-use crate::comings::Dealt;
+use crate::comings::{Dealt, LookedUp};
 use crate::limits::{ATTEMPT, CLOSING, MOST_EXCHANGES, is_due, is_not_after, places_with};
 use crate::tokens::{Owner, exchange_token, is_exchanges, owner_of};
 use branch_asking::{Asking, BranchEnd, Errand, Network, Progress};
@@ -46,20 +47,21 @@ pub(crate) struct Exchanges<H, W: Wire> {
     places: usize,
     // the streams that wait for their backends' ends
     closing: ClosingStreams<W>,
-    // for proofs: those that ended, each with the outcome that was recorded
+    // for proofs: those that ended, each with the outcome that was recorded, and what was found for names
     ended: Log<Asking<W>, Option<Outcome>>,
+    looked_up: Log<LookedUp, bool>,
 }
 
 impl<H, W: Wire> Model for Exchanges<H, W> {
-    ghost use Rattle.std.specs.Prelude.{[]};
+    ghost use Rattle.std.specs.Prelude.{[], map};
     ghost use Rattle.loop_model.specs.Whole.{AsksFairly, WholeLoop};
-    ghost use Rattle.gateway_loop.specs.Loop.{AreFramed, whole_loop};
+    ghost use Rattle.gateway_loop.specs.Loop.{AreFramed, beside, whole_loop};
 
     ghost Value = { WholeLoop };
 
-    ghost view = { λ l. whole_loop l.framing l.clients l.asking.slots l.ended.items l.closing };
+    ghost view = { λ l. whole_loop l.framing l.clients l.asking.slots l.ended.items (beside l.closing (map (λ f. f.0) l.looked_up.items)) };
 
-    ghost invariant = { λ l. AsksFairly (whole_loop l.framing l.clients l.asking.slots l.ended.items [])
+    ghost invariant = { λ l. AsksFairly (whole_loop l.framing l.clients l.asking.slots l.ended.items (beside [] (map (λ f. f.0) l.looked_up.items)))
         × AreFramed l.framing l.asking.slots };
 }
 
@@ -84,6 +86,7 @@ impl<H: ReplyHook + Drop, W: Wire + Drop> Exchanges<H, W> {
             clients: Clients::new(alloc, plans)?,
             closing: ClosingStreams::new(alloc)?,
             ended: Log::new(),
+            looked_up: Log::new(),
         })
     }
 
@@ -97,7 +100,7 @@ impl<H: ReplyHook + Drop, W: Wire + Drop> Exchanges<H, W> {
     /// Opens a connection for the stream: the place of its client. Where none can be opened, the stream is closed
     /// without a byte.
     pub(crate) fn open<N: Network<W>>(&mut self, net: &mut N, dealt: Dealt<H, W>) -> Option<usize>
-        ensures goes { Admits 1 (N.value net.old) (N.value net.new) self.old self.new }
+        ensures goes { Admits 1 [] (N.value net.old) (N.value net.new) self.old self.new }
     {
         self.clients.open(net, dealt)
     }
@@ -143,7 +146,7 @@ impl<H: ReplyHook + Drop, W: Wire + Drop> Exchanges<H, W> {
     /// The drain begins: calls that are undecided end, and those that come are refused.
     pub(crate) fn drain(&mut self)
         ensures continues { ContinuesLoop self.old self.new }
-        ensures accounts { (a : NetworkValue) → AccountsOn 0 a a self.old self.new }
+        ensures accounts { (a : NetworkValue) → AccountsOn 0 [] a a self.old self.new }
         ensures drained { self.new.side.drained ≡ true }
     {
         self.clients.drain();
@@ -306,14 +309,24 @@ impl<H: ReplyHook + Drop, W: Wire + Drop> Exchanges<H, W> {
         has_address
     }
 
-    /// These addresses were found for the name. They are to be tried for the exchange in that place.
-    pub(crate) fn find(&mut self, place: usize, name: &str, found: VecDeque<SocketAddr>)
+    /// This was found for its name.
+    pub(crate) fn note_found(&mut self, looked_up: &LookedUp)
+        ensures goes { (a : NetworkValue) → Admits 0 (looked_up.now ∷ []) a a self.old self.new }
+        ensures there { Contains self.new.looked_up looked_up.now }
+    {
+        self.looked_up = self.looked_up.and(looked_up, &true);
+    }
+
+    /// The first of these addresses, which were found for the name, are to be tried for the exchange in that place.
+    pub(crate) fn find(&mut self, place: usize, looked_up: &LookedUp, first: VecDeque<SocketAddr>)
+        requires there { Contains self.old.looked_up looked_up.now }
+        requires first { first.items ≡ take 32 looked_up.now.addresses }
         ensures goes { GoesAlone self.old self.new }
     {
         let Some(mut asking) = self.asking.try_remove(place) else {
             return;
         };
-        asking.find(name, found);
+        asking.find(looked_up.name(), first);
         asking.begun_law();
         let _place = self.asking.insert_reserved(asking);
     }

@@ -1,7 +1,7 @@
 ghost use Rattle.gateway_loop.specs.Loop.{Admits, Goes, GoesAlone};
 ghost use Rattle.loop_model.specs.Accounts.{AccountsOn};
 ghost use Rattle.loop_model.specs.Whole.{ContinuesLoop};
-ghost use Rattle.std.specs.Prelude.{◌≡◌, length};
+ghost use Rattle.std.specs.Prelude.{◌≡◌, [], length};
 
 use crate::client::{Heard, Written};
 use crate::comings::Dealt;
@@ -20,7 +20,7 @@ impl<H: ReplyHook + Drop, W: Wire + Drop> EventLoop<H, W> {
         net: &mut N,
         streams: &mut VecDeque<Dealt<H, W>>,
     )
-        ensures goes { Admits (length streams.old.items) (N.value net.old) (N.value net.new) self.old self.new }
+        ensures goes { Admits (length streams.old.items) [] (N.value net.old) (N.value net.new) self.old self.new }
     {
         while let Some(dealt) = streams.pop_front() {
             self.admit(net, dealt);
@@ -30,7 +30,7 @@ impl<H: ReplyHook + Drop, W: Wire + Drop> EventLoop<H, W> {
     /// Opens a connection for the stream. Where none can be opened, or the stream not be watched, it is closed without
     /// a byte.
     fn admit<N: Network<W>>(&mut self, net: &mut N, dealt: Dealt<H, W>)
-        ensures goes { Admits 1 (N.value net.old) (N.value net.new) self.old self.new }
+        ensures goes { Admits 1 [] (N.value net.old) (N.value net.new) self.old self.new }
     {
         let Some(place) = self.exchanges.open(net, dealt) else {
             return net.tell_unserved();
@@ -128,7 +128,7 @@ impl<H: ReplyHook + Drop, W: Wire + Drop> EventLoop<H, W> {
     /// whose last bytes made no request stays: its request may be half read.
     pub fn close_idle<N: Network<W>>(&mut self, net: &mut N)
         ensures continues { ContinuesLoop self.old self.new }
-        ensures accounts { AccountsOn 0 (N.value net.old) (N.value net.new) self.old self.new }
+        ensures accounts { AccountsOn 0 [] (N.value net.old) (N.value net.new) self.old self.new }
         ensures drained { self.new.side.drained ≡ self.old.side.drained }
     {
         for _client in 0..self.clients().len() {

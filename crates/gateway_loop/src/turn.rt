@@ -3,7 +3,7 @@ ghost use Rattle.loop_model.specs.Accounts.{AccountsOn};
 ghost use Rattle.loop_model.specs.Growing.{HasTicked};
 ghost use Rattle.loop_model.specs.Reports.{tell_all};
 ghost use Rattle.loop_model.specs.Whole.{ContinuesLoop};
-ghost use Rattle.std.specs.Prelude.{◌≡◌, length, true};
+ghost use Rattle.std.specs.Prelude.{◌≡◌, [], length, true};
 
 use crate::comings::Comings;
 use crate::event_loop::EventLoop;
@@ -20,7 +20,7 @@ impl<H: ReplyHook + Drop, W: Wire + Drop> EventLoop<H, W> {
     pub fn turn<N: Network<W>>(&mut self, net: &mut N, comings: &mut Comings<H, W>)
         ensures continues { ContinuesLoop self.old self.new }
         ensures reports { ContinuesLoop (tell_all comings.old.ready.items self.old) self.new }
-        ensures accounts { AccountsOn (length comings.old.streams.items) (N.value net.old) (N.value net.new) self.old self.new }
+        ensures accounts { AccountsOn (length comings.old.streams.items) comings.old.found.items (N.value net.old) (N.value net.new) self.old self.new }
         ensures ticks { HasTicked self.old.side self.new.side }
         ensures drained { self.new.side.drained ≡ self.old.side.drained }
     {
@@ -129,7 +129,7 @@ impl<H: ReplyHook + Drop, W: Wire + Drop> EventLoop<H, W> {
     /// The drain begins: calls that are undecided end, and those that come are refused.
     pub fn drain<N: Network<W>>(&mut self, net: &mut N)
         ensures continues { ContinuesLoop self.old self.new }
-        ensures accounts { AccountsOn 0 (N.value net.old) (N.value net.new) self.old self.new }
+        ensures accounts { AccountsOn 0 [] (N.value net.old) (N.value net.new) self.old self.new }
         ensures drained { self.new.side.drained ≡ true }
     {
         self.exchanges.drain();

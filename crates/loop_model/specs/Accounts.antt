@@ -5,6 +5,7 @@ use Rattle.std.specs.declared.net.socket_addr.SocketAddr.{SocketAddr}
 use Rattle.loop_model.specs.Asking.{AskingValue, EndedValue, StreamValue, peers_of}
 use Rattle.loop_model.specs.Clients.{ClientValue}
 use Rattle.loop_model.specs.Explained.{LoopValue}
+use Rattle.loop_model.specs.Found.{FoundValue}
 use Rattle.loop_model.specs.Standing.{count_clients}
 use Rattle.loop_model.specs.Streams.{ClosedValue, closed_value}
 use Rattle.loop_model.specs.Whole.{WholeLoop}
@@ -15,18 +16,19 @@ pub record NetworkValue : Type 0 where
   pub made : List SocketAddr
   pub closed : List ClosedValue
 
--- what it had done before its loop was there, and how many streams of clients were dealt to that loop
+-- what it had done before its loop was there, how many streams of clients were dealt to that loop, and what was found for names and handed in
 pub record Account : Type 0 where
   pub before : NetworkValue
   pub dealt : ℕ
+  pub found : List FoundValue
 
--- the same, where so many were dealt since
-abbrev pub with_dealt : ℕ → Account → Account
-with_dealt more u = record u { dealt = u.dealt + more }
+-- the same, where so many were dealt since, and this was handed in
+abbrev pub with_more : ℕ → List FoundValue → Account → Account
+with_more dealt found u = record u { dealt = u.dealt + dealt; found = u.found ++ found }
 
 -- of a new loop
 abbrev pub first_account : NetworkValue → Account
-first_account a = record { before = a; dealt = 0 }
+first_account a = record { before = a; dealt = 0; found = [] }
 
 -- ---- what the loop's lists say
 
@@ -66,13 +68,14 @@ count_dealt l = count_clients l.clients + length l.gone + length l.unserved
 -- ---- the account
 
 -- The network told what the loop was told. It made, for each address, as many streams as jobs went over. Each stream that has left its client
--- or its job was closed, as it was then, or waits for its backend's end; and no other was closed. Each stream that was dealt came to the loop.
+-- or its job was closed, as it was then, or waits for its backend's end; and no other was closed. Each stream that was dealt came to the loop, and so did what was found.
 pub record AccountsFor (u : Account) (a : NetworkValue) (w : WholeLoop) : Type 0 where
   pub told : a.told ≡ u.before.told ++ w.side.told
   pub made : (p : SocketAddr → Bool) → count_by p a.made ≡ count_by p u.before.made + count_made p w
   pub closed : (p : ClosedValue → Bool) → count_by p a.closed + count_by p w.closing ≡ count_by p u.before.closed + count_left p w
   pub dealt : u.dealt ≡ count_dealt w.side
+  pub found : u.found ≡ w.looked_up
 
--- so many streams were dealt to the loop, and whatever was before, the account is right again
-abbrev pub AccountsOn : ℕ → NetworkValue → NetworkValue → WholeLoop → WholeLoop → Type 0
-AccountsOn more a b v w = (u : Account) → AccountsFor u a v → AccountsFor (with_dealt more u) b w
+-- so many streams were dealt to the loop, and this was found and handed in; whatever was before, the account is right again
+abbrev pub AccountsOn : ℕ → List FoundValue → NetworkValue → NetworkValue → WholeLoop → WholeLoop → Type 0
+AccountsOn dealt found a b v w = (u : Account) → AccountsFor u a v → AccountsFor (with_more dealt found u) b w

@@ -7,18 +7,20 @@ use Rattle.gateway_model.specs.Queue.{IsPrefixOf}
 use Rattle.http_pieces.specs.declared.framing.Framing.{Framing}
 use Rattle.loop_model.specs.Asking.{AskingValue, BeginsRequest, EndedValue, IsFair, StreamValue, ended_value}
 use Rattle.loop_model.specs.Explained.{LoopValue}
+use Rattle.loop_model.specs.Found.{AreOfName, FoundValue}
 use Rattle.loop_model.specs.Histories.{IsExplained}
 use Rattle.loop_model.specs.Growing.{Continues}
 use Rattle.loop_model.specs.Streams.{ClosedValue}
 
 -- what is seen of a loop: how replies of its backends may be framed, its clients' side, the jobs that are asked for, in their places, those
--- that were, in the order in which they ended, and the streams that wait for their backends' ends
+-- that were, in the order in which they ended, the streams that wait for their backends' ends, and what was found for names and handed in
 pub record WholeLoop : Type 0 where
   pub framing : Framing
   pub side : LoopValue
   pub asking : List (Option AskingValue)
   pub ended : List EndedValue
   pub closing : List ClosedValue
+  pub looked_up : List FoundValue
 
 -- how many jobs with the property are asked for
 abbrev pub count_asked : (JobValue → Bool) → List (Option AskingValue) → ℕ
@@ -29,11 +31,13 @@ abbrev pub asked_at : ℕ → List (Option AskingValue) → Option AskingValue
 asked_at i asking = slice_index_or asking i None
 
 -- the results that were handed in are those of the exchanges that ended, in order, and each ended fairly; what was written of each that is
--- asked for begins its request; and a job was taken as often as it has ended, or is asked for
+-- asked for begins its request; what was found for each was found for its name; and a job was taken as often as it has ended, or is asked for
 pub record AsksFairly (w : WholeLoop) : Type 0 where
   pub results : w.side.results ≡ map (λ (e : EndedValue). (e.asking.job, e.outcome)) w.ended
   pub fair : All (IsFair w.framing) w.ended
   pub begun : (i : ℕ) (x : AskingValue) → asked_at i w.asking ≡ Some x → BeginsRequest x
+  pub found : (i : ℕ) (x : AskingValue) → asked_at i w.asking ≡ Some x → AreOfName x.job.address x.found w.looked_up
+  pub found_ended : All (λ (e : EndedValue). AreOfName e.asking.job.address e.asking.found w.looked_up) w.ended
   pub jobs : (p : JobValue → Bool) → count_by p w.side.handed ≡ count_by (λ (e : EndedValue). p e.asking.job) w.ended + count_asked p w.asking
 
 -- one history explains its clients, its moments, its results and its jobs, and its results are those of its exchanges
@@ -82,3 +86,4 @@ pub record ContinuesLoop (v w : WholeLoop) : Type 0 where
   pub asking : (i : ℕ) (x : AskingValue) → asked_at i v.asking ≡ Some x
       → (y : AskingValue) × ((asked_at i w.asking ≡ Some y) ⊎ HasEndedSince v w y) × AsksOn x y
   pub ended : IsPrefixOf v.ended w.ended
+  pub looked_up : IsPrefixOf v.looked_up w.looked_up

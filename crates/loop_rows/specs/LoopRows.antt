@@ -74,6 +74,7 @@ loop_of framing core results handed asking ended = record {
   asking = asking;
   ended = ended;
   closing = [];
+  looked_up = [];
 }
 
 -- .. that asks for one job
@@ -125,7 +126,7 @@ readable token = record { token = token; readable = true; writable = false; read
 
 -- a loop with these clients, which asks for these jobs
 abbrev pub loop_with : GatewayValue → List (Option ClientValue) → List (Option AskingValue) → WholeLoop
-loop_with core clients asking = record { framing = framing.Fixed; side = with_clients core clients []; asking = asking; ended = []; closing = [] }
+loop_with core clients asking = record { framing = framing.Fixed; side = with_clients core clients []; asking = asking; ended = []; closing = []; looked_up = [] }
 
 -- nothing is there for connection 0, which goes on
 pub record IsQuietAt (s : Shown) : Type 0 where
@@ -142,12 +143,12 @@ network made closed = record { told = []; made = made; closed = closed }
 
 -- before its loop it did nothing, and so many streams were dealt to that
 abbrev pub account : ℕ → Account
-account dealt = record { before = network [] []; dealt = dealt }
+account dealt = record { before = network [] []; dealt = dealt; found = [] }
 
 -- a loop without clients, whose jobs ended so, and where these streams wait to be closed
 abbrev pub with_ends : Framing → GatewayValue → List EndedValue → List ClosedValue → WholeLoop
-with_ends framing core ended closing = record { framing = framing; side = with_clients core [] []; asking = []; ended = ended; closing = closing }
+with_ends framing core ended closing = record { framing = framing; side = with_clients core [] []; asking = []; ended = ended; closing = closing; looked_up = [] }
 
 -- .. with these clients, and these who have gone
 abbrev pub with_gone : Framing → GatewayValue → List (Option ClientValue) → List ClientValue → WholeLoop
-with_gone framing core clients gone = record { framing = framing; side = with_clients core clients gone; asking = []; ended = []; closing = [] }
+with_gone framing core clients gone = record { framing = framing; side = with_clients core clients gone; asking = []; ended = []; closing = []; looked_up = [] }

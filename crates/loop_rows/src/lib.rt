@@ -11,6 +11,7 @@ mod rows_of_exchanges;
 mod rows_of_histories;
 mod rows_of_loops;
 mod rows_of_moments;
+mod rows_of_names;
 mod rows_of_reports;
 mod rows_of_rest;
 mod rows_of_results;

@@ -15,7 +15,7 @@ ghost use Rattle.loop_rows.specs.LoopRows.{asked, asked_at_peer, asking, asks, e
 /// A job that was taken is asked for, or has ended, and then its result was handed in.
 fn jobs_of_a_loop()
     ensures asked { (f : Framing) (v : GatewayValue) (j : JobValue) → AsksFairly (loop_of f v [] (j ∷ []) (None ∷ Some (asking j) ∷ []) []) }
-    ensures over { (f : Framing) (v : GatewayValue) (e : EndedValue) → IsFair f e
+    ensures over { (f : Framing) (v : GatewayValue) (e : EndedValue) → IsFair f e → e.asking.found ≡ []
         → AsksFairly (loop_of f v ((e.asking.job, e.outcome) ∷ []) (e.asking.job ∷ []) (None ∷ []) (e ∷ [])) }
 {}
 

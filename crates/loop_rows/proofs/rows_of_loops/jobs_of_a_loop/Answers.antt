@@ -1,6 +1,7 @@
-use Rattle.std.proofs.Common.{arith, refl, subst}
+use Rattle.std.proofs.Common.{[], ap, arith, inl, refl, subst, sym}
 use Rattle.std.proofs.lemmas.List.Elements.{All-nil}
-use Rattle.loop_model.specs.Asking.{BeginsRequest, IsFair}
+use Rattle.loop_model.specs.Asking.{AskingValue, BeginsRequest, EndedValue, IsFair}
+use Rattle.loop_model.specs.Found.{AreOfName}
 use Rattle.loop_rows.specs.LoopRows.{asking}
 use Rattle.loop_rows.proofs.ExchangeLemmas.{all_one}
 use Rattle.loop_rows.proofs.LostLemmas.{begins_at_first, nowhere, second}
@@ -11,8 +12,17 @@ returns-clause-asked c f v j = record {
   results = refl;
   fair = All-nil (IsFair f);
   begun = λ i x is. subst (λ t. BeginsRequest t) (second i (asking j) x is) (begins_at_first j);
+  found = λ i x is. inl (ap (λ (t : AskingValue). t.found) (sym (second i (asking j) x is)));
+  found_ended = All-nil (λ (e : EndedValue). AreOfName e.asking.job.address e.asking.found []);
   jobs = λ p. omega arith;
 }
 
 pub returns-clause-over : goal.returns-clause-over
-returns-clause-over c f v e fair = record { results = refl; fair = all_one (IsFair f) e fair; begun = λ i x is. absurd (nowhere i x is); jobs = λ p. omega arith }
+returns-clause-over c f v e fair none = record {
+  results = refl;
+  fair = all_one (IsFair f) e fair;
+  begun = λ i x is. absurd (nowhere i x is);
+  found = λ i x is. absurd (nowhere i x is);
+  found_ended = all_one (λ (d : EndedValue). AreOfName d.asking.job.address d.asking.found []) e (inl none);
+  jobs = λ p. omega arith;
+}

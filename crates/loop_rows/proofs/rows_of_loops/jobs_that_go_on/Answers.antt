@@ -15,6 +15,7 @@ returns-clause-more c h f v j given got more =
           let a = alone i (asked h j [] given got) x is in
           (y, inl (ap (λ n. asked_at n (Some y ∷ [])) a.0), subst (λ t. AsksOn t y) a.1 (record { job = refl; found = prefix-refl (h ∷ []); streams = inl record { tried = refl; peer = inr refl; given = prefix-refl given; got = (more, refl); reported = inr (prefix-refl []) } }));
       ended = prefix-refl [];
+      looked_up = prefix-refl [];
     }
 
 pub returns-clause-another : goal.returns-clause-another
@@ -29,6 +30,7 @@ returns-clause-another c h f v j got =
             subst (λ t. AsksOn t y) a.1 (record { job = refl; found = (h ∷ h ∷ [], refl); streams = inr record { last = stream_value h [] [] false; others = []; tried_are = refl; peer = inl refl; given = prefix-refl []; got = prefix-refl [] } }),
           );
       ended = prefix-refl [];
+      looked_up = prefix-refl [];
     }
 
 pub returns-clause-over : goal.returns-clause-over
@@ -43,4 +45,5 @@ returns-clause-over c h f v j given got more o history =
             subst (λ t. AsksOn t y) a.1 (record { job = refl; found = prefix-refl (h ∷ []); streams = inl record { tried = refl; peer = inr refl; given = (more, refl); got = prefix-refl got; reported = inr (prefix-refl []) } }),
           );
       ended = (ended h j [] (given ++ more) got o ∷ [], refl);
+      looked_up = prefix-refl [];
     }

@@ -1,4 +1,4 @@
-use Rattle.gateway_loop.proofs.Words.{◌≤◌, ℕ, asked_for, inr, subst, whole_loop}
+use Rattle.gateway_loop.proofs.Words.{◌≤◌, ℕ, asked_for, inr, subst, whole_loop, beside, map}
 use Rattle.gateway_loop.proofs.RestLemmas.{as_many, none_waits}
 use Rattle.gateway_loop.proofs.exchanges.Exchanges.may_begin.Goals as goal
 
@@ -10,4 +10,4 @@ returns-then-len-ge-MOST_EXCHANGES g c =
 pub returns : goal.returns
 returns g c =
     let i = c.self.inside in
-    rw (← c.self.view_is) (λ none. none_waits (whole_loop i.framing i.clients i.asking.slots i.ended.items i.closing) c.core.result.now c.waiting_jobs.result c.core.ensures c.waiting_jobs.ensures none)
+    rw (← c.self.view_is) (λ none. none_waits (whole_loop i.framing i.clients i.asking.slots i.ended.items (beside i.closing (map (λ f. f.0) i.looked_up.items))) c.core.result.now c.waiting_jobs.result c.core.ensures c.waiting_jobs.ensures none)

@@ -1,13 +1,13 @@
-use Rattle.gateway_loop.proofs.Words.{[], refl, whole_loop}
+use Rattle.gateway_loop.proofs.Words.{[], refl, whole_loop, beside, map}
 use Rattle.gateway_loop.proofs.AskLemmas.{admits_one, keeps_asking}
 use Rattle.gateway_loop.proofs.exchanges.Exchanges.open.Goals as goal
 
 pub returns : goal.returns
-returns g c = record { goes = rw (← c.self.view_is) (admits_one c.self.inside.framing c.self.inside.asking.slots c.self.inside.ended.items c.self.inside.closing _ _ c.open.ensures.goes c.open.ensures.takes) }
+returns g c = record { goes = rw (← c.self.view_is) (admits_one c.self.inside.framing c.self.inside.asking.slots c.self.inside.ended.items (beside c.self.inside.closing (map (λ f. f.0) c.self.inside.looked_up.items)) _ _ c.open.ensures.goes c.open.ensures.takes) }
 
 pub invariant_of-self : goal.invariant_of-self
 invariant_of-self g c =
     let i = c.self.inside in (
-      keeps_asking (whole_loop i.framing i.clients i.asking.slots i.ended.items []) (whole_loop i.framing c.open.new.self i.asking.slots i.ended.items []) refl c.open.ensures.hands refl refl c.self.invariant.0,
+      keeps_asking (whole_loop i.framing i.clients i.asking.slots i.ended.items (beside [] (map (λ f. f.0) i.looked_up.items))) (whole_loop i.framing c.open.new.self i.asking.slots i.ended.items (beside [] (map (λ f. f.0) i.looked_up.items))) refl c.open.ensures.hands refl refl refl c.self.invariant.0,
       c.self.invariant.1,
     )
