@@ -10,13 +10,15 @@ use Rattle.loop_model.specs.Standing.{count_clients}
 use Rattle.loop_model.specs.Streams.{ClosedValue, closed_value}
 use Rattle.loop_model.specs.Whole.{WholeLoop}
 
--- what a network has done, in order: the moments that it told, the addresses of the streams that it made, and the streams that it closed
+-- what a network has done, in order: the moments that it told, the addresses of the streams that it made, and the
+-- streams that it closed
 pub record NetworkValue : Type 0 where
   pub told : List ℕ
   pub made : List SocketAddr
   pub closed : List ClosedValue
 
--- what it had done before its loop was there, how many streams of clients were dealt to that loop, and what was found for names and handed in
+-- what it had done before its loop was there, how many streams of clients were dealt to that loop, and what was found
+-- for names and handed in
 pub record Account : Type 0 where
   pub before : NetworkValue
   pub dealt : ℕ
@@ -48,8 +50,8 @@ count_made p w =
     sum_by (λ (o : Option AskingValue). option_map_or (λ (x : AskingValue). count_by p (peers_of x.tried x.peer)) o 0) w.asking
     + sum_by (λ (e : EndedValue). count_by p (peers_of e.asking.tried e.asking.peer)) w.ended
 
--- how many such streams its clients and jobs have left: of clients that have gone, of those that were not taken in, those that were given up for
--- jobs, and those over which jobs went that have ended
+-- how many such streams its clients and jobs have left: of clients that have gone, of those that were not taken in,
+-- those that were given up for jobs, and those over which jobs went that have ended
 abbrev pub closed_client : ClientValue → ClosedValue
 closed_client x = closed_value None x.given x.got
 
@@ -67,8 +69,9 @@ count_dealt l = count_clients l.clients + length l.gone + length l.unserved
 
 -- ---- the account
 
--- The network told what the loop was told. It made, for each address, as many streams as jobs went over. Each stream that has left its client
--- or its job was closed, as it was then, or waits for its backend's end; and no other was closed. Each stream that was dealt came to the loop, and so did what was found.
+-- The network told what the loop was told. It made, for each address, as many streams as jobs went over. Each
+-- stream that has left its client or its job was closed, as it was then, or waits for its backend's end; and no other
+-- was closed. Each stream that was dealt came to the loop, and so did what was found.
 pub record AccountsFor (u : Account) (a : NetworkValue) (w : WholeLoop) : Type 0 where
   pub told : a.told ≡ u.before.told ++ w.side.told
   pub made : (p : SocketAddr → Bool) → count_by p a.made ≡ count_by p u.before.made + count_made p w
@@ -76,6 +79,7 @@ pub record AccountsFor (u : Account) (a : NetworkValue) (w : WholeLoop) : Type 0
   pub dealt : u.dealt ≡ count_dealt w.side
   pub found : u.found ≡ w.looked_up
 
--- so many streams were dealt to the loop, and this was found and handed in; whatever was before, the account is right again
+-- so many streams were dealt to the loop, and this was found and handed in; whatever was before, the account is right
+-- again
 abbrev pub AccountsOn : ℕ → List FoundValue → NetworkValue → NetworkValue → WholeLoop → WholeLoop → Type 0
 AccountsOn dealt found a b v w = (u : Account) → AccountsFor u a v → AccountsFor (with_more dealt found u) b w
