@@ -118,6 +118,7 @@ impl<M: NetHost> Looping<M> {
         self.side.end(&self.rt);
         drop(self.mail);
         drop(self.comings);
+        self.event_loop.close_all(&mut self.network);
         drop(self.event_loop);
         self.main.wake(&self.rt);
         are_gone

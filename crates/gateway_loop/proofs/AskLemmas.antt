@@ -414,6 +414,12 @@ framed_by framing y framed untouched x is = subst (λ (t : AskingState). IsFrame
 abbrev pub Keeps : Framing → List FoundValue → LoopValue → List (Option AskingState) → List (AskingState × Option Outcome) → Type 0
 Keeps framing looked v asking ended = AsksFairly (whole_loop framing v asking ended (beside [] looked)) × AreFramed framing asking
 
+-- the clients' side went on with none of them
+pub keeps_clients : (framing : Framing) (looked : List FoundValue) (v w : LoopValue) (asking : List (Option AskingState)) (ended : List (AskingState × Option Outcome)) → HandsNothing v w
+    → Keeps framing looked v asking ended → Keeps framing looked w asking ended
+keeps_clients framing looked v w asking ended hands k =
+    (keeps_asking (whole_loop framing v asking ended (beside [] looked)) (whole_loop framing w asking ended (beside [] looked)) refl hands refl refl refl k.0, k.1)
+
 -- one of them went on with its job, and what was found for it is of its name
 pub keeps_own : (framing : Framing) (looked : List FoundValue) (v : LoopValue) (old new : List (Option AskingState)) (ended : List (AskingState × Option Outcome)) (i : ℕ) (x y : AskingState)
     → slice_index_or old i None ≡ Some x → y.job ≡ x.job → y.framing ≡ x.framing → Put old new i (Some y) → BeginsRequest (asked_for y) → HasUntouched y → AreOfName y.job.job.address y.addresses.found looked

@@ -1,5 +1,5 @@
 -- A loop: its clients, and the jobs that are asked for.
-use Rattle.std.specs.Prelude.{◌≡◌, ℕ, false, List, [], map, slice_index_or, Option, None, Some, option_map}
+use Rattle.std.specs.Prelude.{◌≡◌, ℕ, false, List, [], count_by, is_some, map, slice_index_or, Option, None, Some, option_map}
 use Rattle.connect_codec.specs.declared.answer.Outcome.{Outcome}
 use Rattle.http_pieces.specs.declared.framing.Framing.{Framing}
 use Rattle.loop_model.specs.Accounts.{Account, AccountsFor, AccountsOn, NetworkValue}
@@ -60,3 +60,9 @@ pub record Admits (dealt : ℕ) (found : List FoundValue) (a b : NetworkValue) (
   pub on : (u : WholeLoop) → ContinuesLoop u v → ContinuesLoop u w
   pub accounts : AccountsOn dealt found a b v w
   pub drained : w.side.drained ≡ v.side.drained
+
+-- no client is there, no job is asked for, and no stream waits for its backend's end
+pub record HasNoStream (w : WholeLoop) : Type 0 where
+  pub no_client : count_by is_some w.side.clients ≡ 0
+  pub no_job : count_by is_some w.asking ≡ 0
+  pub none_waits : w.closing ≡ []

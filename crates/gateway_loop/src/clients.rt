@@ -1,4 +1,5 @@
-ghost use Rattle.std.specs.Prelude.{◌≡◌, ◌++◌, ◌∷◌, [], ℕ, List, IfOk, IsTrue, option_map, option_to_list, true};
+ghost use Rattle.std.specs.Prelude.{◌≡◌, ◌+◌, ◌++◌, ◌∷◌, [], ℕ, List, None, IfOk, IfSome, IsTrue, is_some, option_map, option_to_list, true};
+ghost use Rattle.loop_model.specs.Explained.{at};
 ghost use Rattle.connect_codec.specs.declared.answer.Outcome.{Outcome};
 ghost use Rattle.gateway_loop.specs.Clients.{HandsNothing, IsFresh, IsStill, IsTold, LetsGo, Onward, Starts, TakesIn};
 ghost use Rattle.gateway_model.specs.History.{no_history};
@@ -170,6 +171,7 @@ impl<H: ReplyHook + Drop, W: Wire + Drop> Clients<H, W> {
     pub(crate) fn let_go<N: Network<W>>(&mut self, net: &mut N, place: usize)
         ensures goes { Onward self.old self.new }
         ensures leaves { LetsGo (N.value net.old) (N.value net.new) self.old self.new }
+        ensures fewer { is_some (at place self.old.clients) ≡ true → count_clients self.old.clients ≡ count_clients self.new.clients + 1 }
         ensures hands { HandsNothing self.old self.new }
     {
         loop_laws();
@@ -256,6 +258,14 @@ impl<H: ReplyHook + Drop, W: Wire + Drop> Clients<H, W> {
         ensures { result ≡ count_clients self.now.clients }
     {
         self.clients.len()
+    }
+
+    /// The first place that has a client.
+    pub(crate) fn first_place(&self) -> Option<usize>
+        ensures none { result ≡ None → count_clients self.now.clients ≡ 0 }
+        ensures some { IfSome result (λ place. is_some (at place self.now.clients) ≡ true) }
+    {
+        Some(self.clients.iter().next()?.0)
     }
 
     /// How many clients linger.

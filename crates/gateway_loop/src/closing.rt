@@ -1,4 +1,4 @@
-ghost use Rattle.std.specs.Prelude.{map, option_to_list, ◌≡◌, ◌∷◌, ◌++◌};
+ghost use Rattle.std.specs.Prelude.{length, map, option_to_list, ◌≡◌, ◌-◌, ◌∷◌, ◌++◌, []};
 ghost use Rattle.gateway_loop.specs.Closing.{ClosesFrom, IsNone};
 ghost use Rattle.loop_model.specs.Streams.{closed_value};
 
@@ -110,10 +110,21 @@ impl<W: Wire + Drop> ClosingStreams<W> {
 
     /// Closes the first of them, if there is one.
     fn close_first<N: Network<W>>(&mut self, net: &mut N)
-        ensures { ClosesFrom (N.value net.old) (N.value net.new) self.old self.new }
+        ensures closes { ClosesFrom (N.value net.old) (N.value net.new) self.old self.new }
+        ensures fewer { length self.new ≡ length self.old - 1 }
     {
         if let Some(first) = self.waiting.pop_front() {
             net.close(first.into_wire());
+        }
+    }
+
+    /// Closes all of them.
+    pub(crate) fn close_all<N: Network<W>>(&mut self, net: &mut N)
+        ensures none { self.new ≡ [] }
+        ensures closes { ClosesFrom (N.value net.old) (N.value net.new) self.old self.new }
+    {
+        while !self.waiting.is_empty() {
+            self.close_first(net);
         }
     }
 

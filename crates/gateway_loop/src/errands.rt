@@ -22,7 +22,7 @@ impl<H: ReplyHook + Drop, W: Wire + Drop> EventLoop<H, W> {
         ensures goes { Goes (N.value net.old) (N.value net.new) self.old self.new }
     {
         for started in 0..most {
-            let Some(place) = self.exchanges.begin() else {
+            let Some(place) = self.begin() else {
                 return started;
             };
             self.start(net, place);
@@ -36,16 +36,16 @@ impl<H: ReplyHook + Drop, W: Wire + Drop> EventLoop<H, W> {
         ensures goes { Goes (N.value net.old) (N.value net.new) self.old self.new }
     {
         let is_told = self.unasked.take_first();
-        let Some(client) = self.exchanges.client_of(place) else {
+        let Some(client) = self.client_of(place) else {
             return self.drop_new(net, place, is_told);
         };
-        if !self.exchanges.enlist(client, place) {
+        if !self.clients.enlist(client, place) {
             return self.lose(net, place, None);
         }
-        if self.exchanges.is_over(place) {
+        if self.is_over(place) {
             return self.end(net, place);
         }
-        if self.exchanges.has_address(place) {
+        if self.has_address(place) {
             self.try_next(net, place, Loss::NoAddress);
         } else {
             self.look_up(net, place);
@@ -57,8 +57,8 @@ impl<H: ReplyHook + Drop, W: Wire + Drop> EventLoop<H, W> {
     fn drop_new<N: Network<W>>(&mut self, net: &mut N, place: usize, is_told: bool)
         ensures goes { Goes (N.value net.old) (N.value net.new) self.old self.new }
     {
-        self.exchanges.lose(place, Some(Loss::NotWanted));
-        let finished = self.exchanges.finish(net, place);
+        self.note_loss(place, Some(Loss::NotWanted));
+        let finished = self.record(net, place);
         tell_unasked(net, finished.map(|finished| finished.0), is_told);
     }
 
@@ -66,11 +66,11 @@ impl<H: ReplyHook + Drop, W: Wire + Drop> EventLoop<H, W> {
     pub(crate) fn look_up<N: Network<W>>(&mut self, net: &mut N, place: usize)
         ensures goes { Goes (N.value net.old) (N.value net.new) self.old self.new }
     {
-        let Some(asking) = self.exchanges.asking(place) else {
+        let Some(asking) = self.asking.get(place) else {
             return self.lose(net, place, Some(Loss::NoAddress));
         };
         match self.names.wait(net, asking.job().address(), place) {
-            Ok(Some(number)) => self.exchanges.set_waits(place, Some(number)),
+            Ok(Some(number)) => self.set_waits(place, Some(number)),
             Ok(None) => self.lose(net, place, Some(Loss::NoAddress)),
             Err(_) => self.lose(net, place, None),
         }
@@ -79,6 +79,7 @@ impl<H: ReplyHook + Drop, W: Wire + Drop> EventLoop<H, W> {
     /// Takes the names that were looked up.
     pub(crate) fn take_found<N: Network<W>>(&mut self, net: &mut N, found: &mut VecDeque<LookedUp>)
         ensures goes { Admits 0 found.old.items (N.value net.old) (N.value net.new) self.old self.new }
+        ensures taken { found.new.items ≡ [] }
     {
         while let Some(looked_up) = found.pop_front() {
             self.take_name(net, &looked_up);
@@ -89,9 +90,9 @@ impl<H: ReplyHook + Drop, W: Wire + Drop> EventLoop<H, W> {
     fn take_name<N: Network<W>>(&mut self, net: &mut N, looked_up: &LookedUp)
         ensures goes { Admits 0 (looked_up.now ∷ []) (N.value net.old) (N.value net.new) self.old self.new }
     {
-        self.exchanges.note_found(looked_up);
+        self.note_found(looked_up);
         if let Some(places) = self.names.found(looked_up.name()) {
-            self.exchanges.stop_waits(&places);
+            self.stop_waits(&places);
             self.go_all(net, &places, looked_up);
         }
     }
@@ -113,7 +114,7 @@ impl<H: ReplyHook + Drop, W: Wire + Drop> EventLoop<H, W> {
     {
         match first_of(self.alloc, looked_up.addresses()) {
             Ok(first) => {
-                self.exchanges.find(place, looked_up, first);
+                self.find(place, looked_up, first);
                 self.try_next(net, place, Loss::NoAddress);
             }
             Err(_) => self.lose(net, place, None),
@@ -127,10 +128,10 @@ impl<H: ReplyHook + Drop, W: Wire + Drop> EventLoop<H, W> {
     {
         let mut loss = loss;
         for _address in 0..MOST_ADDRESSES {
-            if !self.exchanges.connect(net, place) {
+            if !self.connect(net, place) {
                 break;
             }
-            match self.exchanges.step(place) {
+            match self.step(place) {
                 Progress::Refused(kind) => loss = Loss::Write(kind),
                 Progress::Ended => return self.end(net, place),
                 Progress::Waits | Progress::More => return self.watch(net, place),
@@ -143,21 +144,21 @@ impl<H: ReplyHook + Drop, W: Wire + Drop> EventLoop<H, W> {
     fn watch<N: Network<W>>(&mut self, net: &mut N, place: usize)
         ensures goes { Goes (N.value net.old) (N.value net.new) self.old self.new }
     {
-        if !self.exchanges.watch(net, place) {
+        if !self.watch_stream(net, place) {
             return self.lose(net, place, Some(Loss::NotWatched));
         }
-        let until = self.exchanges.attempt_until(place);
-        self.exchanges.set_until(place, until);
+        let until = self.attempt_until(place);
+        self.set_until(place, until);
     }
 
     /// Where the time of the exchange in that place is over, it is the next address's turn, or it is lost.
     fn time_out<N: Network<W>>(&mut self, net: &mut N, place: usize)
         ensures goes { Goes (N.value net.old) (N.value net.new) self.old self.new }
     {
-        if self.exchanges.is_late(place) {
-            let loss = self.exchanges.loss_at_deadline(place);
+        if self.is_late(place) {
+            let loss = self.loss_at_deadline(place);
             self.lose(net, place, Some(loss));
-        } else if self.exchanges.is_overdue(place) {
+        } else if self.is_overdue(place) {
             self.try_next(net, place, Loss::Write(ErrorKind::TimedOut));
         }
     }
@@ -167,10 +168,10 @@ impl<H: ReplyHook + Drop, W: Wire + Drop> EventLoop<H, W> {
     pub(crate) fn serve_exchange<N: Network<W>>(&mut self, net: &mut N, place: usize)
         ensures goes { Goes (N.value net.old) (N.value net.new) self.old self.new }
     {
-        if !self.exchanges.is_wanted(place) {
+        if !self.is_wanted(place) {
             return self.give_up(net, place);
         }
-        match self.exchanges.step(place) {
+        match self.step(place) {
             Progress::Waits | Progress::More => self.time_out(net, place),
             Progress::Refused(kind) => self.try_next(net, place, Loss::Write(kind)),
             Progress::Ended => self.end(net, place),
@@ -196,7 +197,7 @@ impl<H: ReplyHook + Drop, W: Wire + Drop> EventLoop<H, W> {
     pub(crate) fn lose<N: Network<W>>(&mut self, net: &mut N, place: usize, loss: Option<Loss>)
         ensures goes { Goes (N.value net.old) (N.value net.new) self.old self.new }
     {
-        self.exchanges.lose(place, loss);
+        self.note_loss(place, loss);
         self.end(net, place);
     }
 
@@ -209,12 +210,12 @@ impl<H: ReplyHook + Drop, W: Wire + Drop> EventLoop<H, W> {
     ) -> Option<(usize, CallId)>
         ensures goes { Goes (N.value net.old) (N.value net.new) self.old self.new }
     {
-        let asking = self.exchanges.asking(place)?;
+        let asking = self.asking.get(place)?;
         self.names
             .leave(asking.job().address(), asking.errand().waits);
-        let (end, errand) = self.exchanges.finish(net, place)?;
+        let (end, errand) = self.record(net, place)?;
         let client = errand.client?;
-        self.exchanges.forget_exchange(client, place);
+        self.clients.forget_exchange(client, place);
         let call = end.job.call();
         self.ends.keep(end);
         Some((client, call))
@@ -254,7 +255,7 @@ impl<H: ReplyHook + Drop, W: Wire + Drop> EventLoop<H, W> {
             let Some(place) = self.clients().exchange_of(client, number) else {
                 return;
             };
-            if self.exchanges.is_wanted(place) {
+            if self.is_wanted(place) {
                 number = number.saturating_add(1);
             } else {
                 self.give_up(net, place);
@@ -267,12 +268,12 @@ impl<H: ReplyHook + Drop, W: Wire + Drop> EventLoop<H, W> {
         ensures goes { Goes (N.value net.old) (N.value net.new) self.old self.new }
     {
         // where its own time or its call's ended the call, that is why
-        let loss = if self.exchanges.is_late(place) {
-            self.exchanges.loss_at_deadline(place)
+        let loss = if self.is_late(place) {
+            self.loss_at_deadline(place)
         } else {
             Loss::NotWanted
         };
-        self.exchanges.lose(place, Some(loss));
+        self.note_loss(place, Some(loss));
         let _ended = self.finish(net, place);
     }
 }

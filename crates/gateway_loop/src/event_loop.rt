@@ -9,15 +9,20 @@ ghost use Rattle.loop_model.specs.Whole.{IsExplainedLoop};
 ghost use Rattle.gateway_loop.specs.Loop.{StartsLoop};
 
 use crate::clients::Clients;
+use crate::closing::ClosingStreams;
+use crate::comings::LookedUp;
 use crate::ends::Ends;
-use crate::exchanges::Exchanges;
-use crate::limits::MOST_CLIENTS;
+use crate::limits::{MOST_CLIENTS, MOST_EXCHANGES};
 use crate::names::Names;
 use crate::next_turn::NextTurn;
 use crate::unasked::Unasked;
+use branch_asking::Asking;
 use call_plan::Plans;
+use connect_codec::Outcome;
 use gateway_core::{ReplyHook, Tally};
 use http_pieces::Framing;
+use http_server::Log;
+use slab::Slab;
 use std::alloc::{AllocError, Global};
 use std::collections::VecDeque;
 use std::marker::Model;
@@ -38,11 +43,23 @@ pub struct LoopStanding {
     pub tally: Tally,
 }
 
-/// A gateway's core with its clients' streams and the exchanges with its backends.
+/// A gateway's core with its clients' streams, and the jobs that are asked for, by their places. Whatever is done by its
+/// functions, each job that was taken is asked for, or has one result, which is that of its exchange (`explained_law`).
 #[derive(Drop)]
 pub struct EventLoop<H, W: Wire> {
     pub(crate) alloc: Global,
-    pub(crate) exchanges: Exchanges<H, W>,
+    // how replies of backends may be framed
+    pub(crate) framing: Framing,
+    // the core and its clients
+    pub(crate) clients: Clients<H, W>,
+    pub(crate) asking: Slab<Asking<W>>,
+    // so many places have exchanges, or had some since none was there
+    pub(crate) places: usize,
+    // the streams that wait for their backends' ends
+    pub(crate) closing: ClosingStreams<W>,
+    // for proofs: those that ended, each with the outcome that was recorded, and what was found for names
+    pub(crate) ended: Log<Asking<W>, Option<Outcome>>,
+    pub(crate) looked_up: Log<LookedUp, bool>,
     pub(crate) names: Names,
     pub(crate) ends: Ends,
     pub(crate) unasked: Unasked,
@@ -53,11 +70,16 @@ pub struct EventLoop<H, W: Wire> {
 }
 
 impl<H, W: Wire> Model for EventLoop<H, W> {
-    ghost use Rattle.loop_model.specs.Whole.{WholeLoop};
+    ghost use Rattle.std.specs.Prelude.{[], map};
+    ghost use Rattle.loop_model.specs.Whole.{AsksFairly, WholeLoop};
+    ghost use Rattle.gateway_loop.specs.Loop.{AreFramed, beside, whole_loop};
 
     ghost Value = { WholeLoop };
 
-    ghost view = { λ l. l.exchanges };
+    ghost view = { λ l. whole_loop l.framing l.clients l.asking.slots l.ended.items (beside l.closing (map (λ f. f.0) l.looked_up.items)) };
+
+    ghost invariant = { λ l. AsksFairly (whole_loop l.framing l.clients l.asking.slots l.ended.items (beside [] (map (λ f. f.0) l.looked_up.items)))
+        × AreFramed l.framing l.asking.slots };
 }
 
 impl<H: ReplyHook + Drop, W: Wire + Drop> EventLoop<H, W> {
@@ -71,12 +93,18 @@ impl<H: ReplyHook + Drop, W: Wire + Drop> EventLoop<H, W> {
     {
         Ok(EventLoop {
             alloc,
+            framing,
             names: Names::new(alloc),
             ends: Ends::new(alloc)?,
             unasked: Unasked::new(alloc),
             noted: VecDeque::with_capacity(alloc, 2 * MOST_CLIENTS)?,
             next: NextTurn::AtOnce,
-            exchanges: Exchanges::new(alloc, plans, framing)?,
+            asking: Slab::with_capacity(alloc, MOST_EXCHANGES)?,
+            places: 0,
+            clients: Clients::new(alloc, plans)?,
+            closing: ClosingStreams::new(alloc)?,
+            ended: Log::new(),
+            looked_up: Log::new(),
         })
     }
 
@@ -91,7 +119,7 @@ impl<H: ReplyHook + Drop, W: Wire + Drop> EventLoop<H, W> {
         LoopStanding {
             open: self.clients().len().saturating_sub(lingering),
             lingering,
-            asking: self.exchanges.len(),
+            asking: self.asking.len(),
             waiting: self.clients().core().waiting_jobs(),
             tally: self.clients().core().tally(),
         }
@@ -109,13 +137,13 @@ impl<H: ReplyHook + Drop, W: Wire + Drop> EventLoop<H, W> {
     pub fn explained_law(&self)
         ensures { IsExplainedLoop self.now }
     {
-        self.exchanges.explained_law();
+        self.clients.explained_law();
     }
 
     /// The core and its clients.
     pub(crate) fn clients(&self) -> &Clients<H, W>
         ensures { result.now ≡ self.now.side }
     {
-        self.exchanges.clients()
+        &self.clients
     }
 }

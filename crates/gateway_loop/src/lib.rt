@@ -6,6 +6,7 @@ mod client;
 mod clients;
 mod closing;
 mod comings;
+mod ending;
 mod ends;
 mod errands;
 mod event_loop;

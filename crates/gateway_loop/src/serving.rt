@@ -1,7 +1,8 @@
 ghost use Rattle.gateway_loop.specs.Loop.{Admits, Goes, GoesAlone};
 ghost use Rattle.loop_model.specs.Accounts.{AccountsOn};
 ghost use Rattle.loop_model.specs.Whole.{ContinuesLoop};
-ghost use Rattle.std.specs.Prelude.{◌≡◌, [], length};
+ghost use Rattle.loop_model.specs.Explained.{at};
+ghost use Rattle.std.specs.Prelude.{◌≡◌, ◌+◌, [], count_by, is_some, length, true};
 
 use crate::client::{Heard, Written};
 use crate::comings::Dealt;
@@ -21,6 +22,7 @@ impl<H: ReplyHook + Drop, W: Wire + Drop> EventLoop<H, W> {
         streams: &mut VecDeque<Dealt<H, W>>,
     )
         ensures goes { Admits (length streams.old.items) [] (N.value net.old) (N.value net.new) self.old self.new }
+        ensures taken { streams.new.items ≡ [] }
     {
         while let Some(dealt) = streams.pop_front() {
             self.admit(net, dealt);
@@ -32,10 +34,10 @@ impl<H: ReplyHook + Drop, W: Wire + Drop> EventLoop<H, W> {
     fn admit<N: Network<W>>(&mut self, net: &mut N, dealt: Dealt<H, W>)
         ensures goes { Admits 1 [] (N.value net.old) (N.value net.new) self.old self.new }
     {
-        let Some(place) = self.exchanges.open(net, dealt) else {
+        let Some(place) = self.clients.open(net, dealt) else {
             return net.tell_unserved();
         };
-        if !self.exchanges.watch_client(net, place) {
+        if !self.clients.watch(net, place) {
             self.drop_client(net, place);
             net.tell_unserved();
         }
@@ -45,8 +47,8 @@ impl<H: ReplyHook + Drop, W: Wire + Drop> EventLoop<H, W> {
     pub(crate) fn note(&mut self, place: usize)
         ensures { self.new ≡ self.old }
     {
-        if !self.exchanges.set_noted(place, true) && self.noted.push_back(place).is_err() {
-            let _was_noted = self.exchanges.set_noted(place, false);
+        if !self.clients.set_noted(place, true) && self.noted.push_back(place).is_err() {
+            let _was_noted = self.clients.set_noted(place, false);
         }
     }
 
@@ -55,7 +57,7 @@ impl<H: ReplyHook + Drop, W: Wire + Drop> EventLoop<H, W> {
         ensures { self.new ≡ self.old }
     {
         let place = self.noted.pop_front()?;
-        let _was_noted = self.exchanges.set_noted(place, false);
+        let _was_noted = self.clients.set_noted(place, false);
         Some(place)
     }
 
@@ -84,10 +86,10 @@ impl<H: ReplyHook + Drop, W: Wire + Drop> EventLoop<H, W> {
             return Heard::Nothing;
         }
         let requests = self.clients().requests(place);
-        let heard = self.exchanges.read(place);
+        let heard = self.clients.read(place);
         if heard == Heard::Piece {
             let is_half_read = self.clients().requests(place) == requests;
-            self.exchanges.set_half_read(place, is_half_read);
+            self.clients.set_half_read(place, is_half_read);
         }
         heard
     }
@@ -114,7 +116,7 @@ impl<H: ReplyHook + Drop, W: Wire + Drop> EventLoop<H, W> {
         if self.clients().lingers(place) {
             return;
         }
-        let written = self.exchanges.write(net, place);
+        let written = self.clients.write(net, place);
         if written == Written::Failed {
             self.clients().tell_broken(net, place);
             self.drop_client(net, place);
@@ -146,8 +148,8 @@ impl<H: ReplyHook + Drop, W: Wire + Drop> EventLoop<H, W> {
     {
         let lingers = self.clients().is_read(place) && self.clients().lingering() < MOST_LINGERING;
         let until = self.clients().moment().saturating_add(LINGER);
-        let exchanges = self.exchanges.take_exchanges(place);
-        self.exchanges.leave(place, until);
+        let exchanges = self.clients.take_exchanges(place);
+        self.clients.leave(place, until);
         self.give_up_all(net, exchanges);
         if !lingers {
             self.drop_client(net, place);
@@ -158,8 +160,18 @@ impl<H: ReplyHook + Drop, W: Wire + Drop> EventLoop<H, W> {
     pub(crate) fn drop_client<N: Network<W>>(&mut self, net: &mut N, place: usize)
         ensures goes { Goes (N.value net.old) (N.value net.new) self.old self.new }
     {
-        let exchanges = self.exchanges.take_exchanges(place);
-        self.exchanges.let_go(net, place);
+        let exchanges = self.clients.take_exchanges(place);
+        self.let_go(net, place);
         self.give_up_all(net, exchanges);
+    }
+
+    /// The same, where no exchange is asked for the client any more.
+    pub(crate) fn let_go<N: Network<W>>(&mut self, net: &mut N, place: usize)
+        ensures goes { Goes (N.value net.old) (N.value net.new) self.old self.new }
+        ensures fewer { is_some (at place self.old.side.clients) ≡ true
+            → count_by is_some self.old.side.clients ≡ count_by is_some self.new.side.clients + 1 }
+        ensures others { self.new.asking ≡ self.old.asking }
+    {
+        self.clients.let_go(net, place);
     }
 }

@@ -23,6 +23,7 @@ impl<H: ReplyHook + Drop, W: Wire + Drop> EventLoop<H, W> {
         ensures accounts { AccountsOn (length comings.old.streams.items) comings.old.found.items (N.value net.old) (N.value net.new) self.old self.new }
         ensures ticks { HasTicked self.old.side self.new.side }
         ensures drained { self.new.side.drained ≡ self.old.side.drained }
+        ensures taken { (comings.new.ready.items ≡ []) × (comings.new.streams.items ≡ []) × (comings.new.found.items ≡ []) }
     {
         self.note_reports(net, comings.ready.as_slice());
         self.tick(net);
@@ -34,12 +35,13 @@ impl<H: ReplyHook + Drop, W: Wire + Drop> EventLoop<H, W> {
     /// Serves those of whom the wait told, and all for whom something is left to be done, if there may be some.
     fn serve<N: Network<W>>(&mut self, net: &mut N, ready: &mut Vec<Ready>)
         ensures goes { Goes (N.value net.old) (N.value net.new) self.old self.new }
+        ensures taken { ready.new.items ≡ [] }
     {
         self.serve_ready(net, ready);
         if self.is_restless() {
             self.serve_restless(net);
         }
-        self.exchanges.close_due(net);
+        self.close_due(net);
         self.settle(net);
     }
 
@@ -49,7 +51,7 @@ impl<H: ReplyHook + Drop, W: Wire + Drop> EventLoop<H, W> {
         ensures goes { Goes (N.value net.old) (N.value net.new) self.old self.new }
         ensures ticks { HasTicked self.old.side self.new.side }
     {
-        if self.exchanges.tick(net) {
+        if self.clients.tick(net) {
             self.look_at_all(net);
         }
     }
@@ -60,13 +62,14 @@ impl<H: ReplyHook + Drop, W: Wire + Drop> EventLoop<H, W> {
         ensures goes { Goes (N.value net.old) (N.value net.new) self.old self.new }
     {
         for ready in reports {
-            self.exchanges.note_ready(net, *ready);
+            self.note_ready(net, *ready);
         }
     }
 
     /// Serves those of whom the wait told, in that order: so what came first comes first.
     fn serve_ready<N: Network<W>>(&mut self, net: &mut N, ready: &mut Vec<Ready>)
         ensures goes { Goes (N.value net.old) (N.value net.new) self.old self.new }
+        ensures taken { ready.new.items ≡ [] }
     {
         for ready in ready.drain(..) {
             match owner_of(ready.token) {
@@ -89,8 +92,8 @@ impl<H: ReplyHook + Drop, W: Wire + Drop> EventLoop<H, W> {
         ensures goes { Goes (N.value net.old) (N.value net.new) self.old self.new }
     {
         let soon = self.clients().moment().saturating_add(1);
-        for place in 0..self.exchanges.places() {
-            if !self.exchanges.rests(place, Some(soon)) {
+        for place in 0..self.places {
+            if !self.exchange_rests(place, Some(soon)) {
                 self.serve_exchange(net, place);
             }
         }
@@ -132,7 +135,7 @@ impl<H: ReplyHook + Drop, W: Wire + Drop> EventLoop<H, W> {
         ensures accounts { AccountsOn 0 [] (N.value net.old) (N.value net.new) self.old self.new }
         ensures drained { self.new.side.drained ≡ true }
     {
-        self.exchanges.drain();
+        self.clients.drain();
         self.ends.drain();
         self.look_at_all(net);
     }

@@ -83,7 +83,7 @@ impl<H: ReplyHook + Drop, W: Wire + Drop> EventLoop<H, W> {
         ensures same { self.new ≡ self.old }
         ensures net { N.value net.new ≡ N.value net.old }
     {
-        let core = self.exchanges.clients().core();
+        let core = self.clients.core();
         let Some(job) = core.waiting_job(place) else {
             return;
         };

@@ -5,7 +5,7 @@ pub loop-stream-init : goal.loop-stream-init
 loop-stream-init g c = closes_none _ _
 
 pub loop-stream-preserved : goal.loop-stream-preserved
-loop-stream-preserved g c = closes_then _ _ _ _ _ _ c.loop-stream.invariant c.close_first.ensures
+loop-stream-preserved g c = closes_then _ _ _ _ _ _ c.loop-stream.invariant c.close_first.ensures.closes
 
 pub returns-then-is_none_or : goal.returns-then-is_none_or
 returns-then-is_none_or g c = c.loop-stream.invariant

@@ -1,11 +1,15 @@
-use Rattle.gateway_loop.proofs.Words.{[], ◌∙◌, with_more}
+use Rattle.gateway_loop.proofs.Words.{[], beside, map, with_more, ◌∙◌}
+use Rattle.gateway_loop.proofs.AskLemmas.{drains_so, keeps_clients}
 use Rattle.gateway_loop.proofs.event_loop.EventLoop.drain.Goals as goal
 
 pub returns-clause-continues : goal.returns-clause-continues
-returns-clause-continues g c = rw (← c.self.view_is) (c.look_at_all.ensures.goes.on _ c.drain.ensures.continues)
+returns-clause-continues g c = rw (← c.self.view_is) (c.look_at_all.ensures.goes.on _ (drains_so c.self.inside.framing c.self.inside.asking.slots c.self.inside.ended.items (beside c.self.inside.closing (map (λ f. f.0) c.self.inside.looked_up.items)) _ _ c.drain.ensures.continues c.drain.ensures.still).0)
 
 pub returns-clause-accounts : goal.returns-clause-accounts
-returns-clause-accounts g c = rw (← c.self.view_is) (λ u f. c.look_at_all.ensures.goes.accounts (with_more 0 [] u) (c.drain.ensures.accounts _ u f))
+returns-clause-accounts g c = rw (← c.self.view_is) (λ u f. c.look_at_all.ensures.goes.accounts (with_more 0 [] u) ((drains_so c.self.inside.framing c.self.inside.asking.slots c.self.inside.ended.items (beside c.self.inside.closing (map (λ f. f.0) c.self.inside.looked_up.items)) _ _ c.drain.ensures.continues c.drain.ensures.still).1 _ u f))
 
 pub returns-clause-drained : goal.returns-clause-drained
 returns-clause-drained g c = c.look_at_all.ensures.goes.drained ∙ c.drain.ensures.drained
+
+pub invariant_of-self : goal.invariant_of-self
+invariant_of-self g c = keeps_clients c.self.inside.framing (map (λ f. f.0) c.self.inside.looked_up.items) c.self.inside.clients c.drain.new.self c.self.inside.asking.slots c.self.inside.ended.items c.drain.ensures.hands c.self.invariant

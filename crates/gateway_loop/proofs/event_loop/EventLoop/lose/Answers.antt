@@ -2,4 +2,4 @@ use Rattle.gateway_loop.proofs.AskLemmas.{goes_then}
 use Rattle.gateway_loop.proofs.event_loop.EventLoop.lose.Goals as goal
 
 pub returns : goal.returns
-returns g c = record { goes = rw (← c.self.view_is) (goes_then _ _ _ (c.lose.ensures.goes _) c.end.ensures.goes) }
+returns g c = record { goes = goes_then _ _ _ (c.note_loss.ensures.goes _) c.end.ensures.goes }

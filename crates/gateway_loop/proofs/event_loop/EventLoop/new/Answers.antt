@@ -1,5 +1,18 @@
+use Rattle.gateway_loop.proofs.Words.{map, refl}
+use Rattle.gateway_loop.proofs.AskLemmas.{starts_fair}
 use Rattle.gateway_loop.proofs.AccountLemmas.{first_accounts}
 use Rattle.gateway_loop.proofs.event_loop.EventLoop.new.Goals as goal
 
 pub returns-clause-accounts : goal.returns-clause-accounts
-returns-clause-accounts g c = first_accounts _ c.in_ok-new-2.ensures.starts
+returns-clause-accounts g c = λ a. first_accounts _ record {
+  side = c.in_ok-new-2.ensures.starts;
+  none_asked = rw c.in_ok-with_capacity-2.ensures.empty refl;
+  none_ended = rw c.new-6.ensures refl;
+  none_closing = c.in_ok-new-3.ensures;
+  none_found = rw c.new-7.ensures refl;
+} a
+
+pub invariant_of-result : goal.invariant_of-result
+invariant_of-result g c =
+    rw (c.in_ok-with_capacity-2.ensures.empty, c.new-6.ensures)
+    (starts_fair c.args.framing (map (λ f. f.0) c.new-7.result.items) c.in_ok-new-2.field-0 c.in_ok-new-2.ensures.starts.no_results c.in_ok-new-2.ensures.starts.none_handed)

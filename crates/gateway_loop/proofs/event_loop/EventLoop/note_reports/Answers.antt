@@ -16,7 +16,7 @@ loop-ready-preserved g c =
     let before = c.loop-ready.invariant in
     let now : List ClosedValue = c.note_ready.new.self.closing in (
       c.note_ready.ensures.exact ∙ ap (λ (w : WholeLoop). record (tell item w) { closing = now }) before.0
-          ∙ ap (λ (w : WholeLoop). record w { closing = now }) (tell_beside item (tell_all (take index reports) c.args.self.now) c.loop-ready.self-inside.exchanges.closing)
+          ∙ ap (λ (w : WholeLoop). record w { closing = now }) (tell_beside item (tell_all (take index reports) c.args.self.now) c.loop-ready.self.closing)
           ∙ ap (λ (w : WholeLoop). record w { closing = now }) (sym (tell_more (take index reports) item c.args.self.now))
           ∙ ap (λ (l : List Ready). record (tell_all l c.args.self.now) { closing = now }) (sym (take_more reports index nobodys c.loop-ready-test.true)),
       goes_then _ _ _ before.1 c.note_ready.ensures.goes,

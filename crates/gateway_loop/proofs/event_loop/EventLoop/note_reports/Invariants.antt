@@ -5,5 +5,5 @@ use Rattle.gateway_loop.proofs.event_loop.EventLoop.note_reports.Given as goal
 -- the reports so far were told, and no more
 abbrev pub invariant-loop-ready : goal.invariant-loop-ready
 invariant-loop-ready g l =
-    (l.self-inside.exchanges ≡ record (tell_all (take l.ready-index l.reports) l.fn.self) { closing = l.self-inside.exchanges.closing })
-    × Goes (g.N.Network.value l.fn.net) (g.N.Network.value l.net) l.fn.self l.self-inside.exchanges
+    (l.self ≡ record (tell_all (take l.ready-index l.reports) l.fn.self) { closing = l.self.closing })
+    × Goes (g.N.Network.value l.fn.net) (g.N.Network.value l.net) l.fn.self l.self

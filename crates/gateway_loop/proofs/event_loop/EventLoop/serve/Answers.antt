@@ -3,10 +3,10 @@ use Rattle.gateway_loop.proofs.AskLemmas.{goes_same, goes_then}
 use Rattle.gateway_loop.proofs.event_loop.EventLoop.serve.Goals as goal
 use Rattle.gateway_loop.proofs.event_loop.EventLoop.serve.Goals.{then-is_restless, else-is_restless}
 
-pub returns : goal.returns
-returns g c =
+pub returns-clause-goes : goal.returns-clause-goes
+returns-clause-goes g c =
     let served : Goes (g.N.Network.value c.serve_ready.new.net) (g.N.Network.value c.if-is_restless.net) c.serve_ready.new.self c.if-is_restless.self = elim c.if-is_restless.branch [
       | then-is_restless w ↦ rw (w.self-is, w.net-is) w.serve_restless.ensures.goes
       | else-is_restless w ↦ rw (w.self-is, w.net-is) (goes_same _)
     ] in
-    record { goes = goes_then _ _ _ c.serve_ready.ensures.goes (goes_then _ _ _ served (rw c.self-2.view_is at (goes_then _ _ _ c.close_due.ensures.goes c.settle.ensures.goes))) }
+    goes_then _ _ _ c.serve_ready.ensures.goes (goes_then _ _ _ served (goes_then _ _ _ c.close_due.ensures.goes c.settle.ensures.goes))

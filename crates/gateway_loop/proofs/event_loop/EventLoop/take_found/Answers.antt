@@ -13,9 +13,9 @@ loop-looked_up-preserved g c =
       c.loop-looked_up.invariant.2 ∙ ap (λ (l : List FoundValue). done ++ l) c.in-Some.ensures.items ∙ sym (append_assoc done (c.in-Some.looked_up ∷ []) c.pop_front.new.self.items),
     )
 
-pub returns : goal.returns
-returns g c =
+pub returns-clause-goes : goal.returns-clause-goes
+returns-clause-goes g c =
     let done = c.loop-looked_up.invariant.0 in
     let none : c.loop-looked_up.found.items ≡ [] = search rules in
     let all : c.args.found.now.items ≡ done = c.loop-looked_up.invariant.2 ∙ ap (λ (l : List FoundValue). done ++ l) none ∙ append-nil done in
-    record { goes = subst (λ (l : List FoundValue). Admits 0 l (g.N.Network.value c.args.net.now) (g.N.Network.value c.loop-looked_up.net) c.args.self.now c.loop-looked_up.self) (sym all) c.loop-looked_up.invariant.1 }
+    subst (λ (l : List FoundValue). Admits 0 l (g.N.Network.value c.args.net.now) (g.N.Network.value c.loop-looked_up.net) c.args.self.now c.loop-looked_up.self) (sym all) c.loop-looked_up.invariant.1

@@ -1,0 +1,14 @@
+use Rattle.gateway_loop.proofs.Words.{sym, ap, AskingState, beside, map}
+use Rattle.gateway_loop.proofs.AskLemmas.{goes_back, keeps_back, same_streams}
+use Rattle.gateway_loop.proofs.event_loop.EventLoop.set_until.Goals as goal
+
+pub invariant_of-self-2 : goal.invariant_of-self-2
+invariant_of-self-2 g c =
+    let put = c.insert_reserved-place.ensures in
+    keeps_back c.self.inside.framing (map (λ f. f.0) c.self.inside.looked_up.items) c.self.inside.clients c.self.inside.ended.items c.try_remove.ensures.updates c.in-Some.ensures.key_is_next put.key put.updates (sym c.in-Some.ensures.value)
+    (ap (λ (x : AskingState). x.job) c.set_until.ensures.noted) (ap (λ (x : AskingState). x.framing) c.set_until.ensures.noted) (ap (λ (x : AskingState). x.addresses.found) c.set_until.ensures.noted) c.begun_law.ensures.begun c.begun_law.ensures.untouched c.self.invariant
+
+pub returns : goal.returns
+returns g c =
+    let put = c.insert_reserved-place.ensures in
+    record { goes = rw (← c.self.view_is) (λ a. goes_back c.self.inside.framing (map (λ f. f.0) c.self.inside.looked_up.items) c.self.inside.clients c.self.inside.ended.items (beside c.self.inside.closing (map (λ f. f.0) c.self.inside.looked_up.items)) c.try_remove.ensures.updates c.in-Some.ensures.key_is_next put.key put.updates (sym c.in-Some.ensures.value) c.set_until.ensures.on (same_streams c.in-Some.asking c.set_until.new.self (ap (λ (x : AskingState). x.tried) c.set_until.ensures.noted) (ap (λ (x : AskingState). x.attempt.peer) c.set_until.ensures.noted)) a) }

@@ -1,8 +1,0 @@
-use Rattle.gateway_loop.proofs.Words.{beside, map}
-use Rattle.gateway_loop.proofs.AskLemmas.{goes_closes}
-use Rattle.gateway_loop.proofs.exchanges.Exchanges.close_ended.Goals as goal
-
-pub returns-clause-goes : goal.returns-clause-goes
-returns-clause-goes g c =
-    let i = c.self.inside in
-    rw (← c.self.view_is) (goes_closes i.framing i.clients i.asking.slots i.ended.items (beside i.closing (map (λ f. f.0) i.looked_up.items)) c.note_ready.new.self c.note_ready.ensures)
