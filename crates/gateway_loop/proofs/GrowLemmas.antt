@@ -2,6 +2,7 @@
 use Rattle.gateway_loop.proofs.Words.{Ready, ◌≡◌, ℕ, List, [], ◌∷◌, ◌++◌, map, Option, None, Some, refl, sym, ap, ◌∙◌, subst, append-nil, inl, inr, ⊎_elim, Bool, false, arith, ◌+◌, count_by, option_map_or, Contains, cases_eq, Contains-append_left, Contains-push, map-append, sum_by-cons, entries_from, Outcome, HandedJob, JobValue, IsPrefixOf, ClientValue, ClosedValue, client_value, LoopValue, at, Continues, Grows, GoesOn, Onward, lingering, prefix-refl, prefix-trans}
 use Rattle.std.proofs.lemmas.Bool.Decides.{nat_tests}
 use Rattle.gateway_loop.proofs.LeadLemmas.{extends_none, extends_then}
+use Rattle.gateway_loop.proofs.LivedLemmas.{lives_none, lives_then}
 use Rattle.gateway_loop.proofs.LoopLemmas.{SameRest}
 use Rattle.gateway_loop.proofs.Places.{Put}
 
@@ -24,7 +25,12 @@ pub continues_then : (u v w : LoopValue) → Continues u v → Continues v w →
 continues_then u v w a b = record {
   history = λ unknown h held.
       let first = a.history unknown h held in
-      let second = b.history unknown first.0 first.1 in (second.0, second.1, extends_then h first.0 second.0 first.2 second.2);
+      let second = b.history unknown first.0 first.1 in (
+        second.0,
+        second.1,
+        extends_then h first.0 second.0 first.2 second.2,
+        lives_then u.core v.core w.core h first.0 second.0 b.plans first.2 second.2 first.3 second.3,
+      );
   plans = b.plans ∙ a.plans;
   clients = λ i x is.
       let first = a.clients i x is in
@@ -44,7 +50,7 @@ onward v w drained c = record { on = λ u a. continues_then u v w a c; drained =
 
 pub continues_same : (v : LoopValue) → Continues v v
 continues_same v = record {
-  history = λ unknown h held. (h, held, extends_none h);
+  history = λ unknown h held. (h, held, extends_none h, lives_none v.core h);
   plans = refl;
   clients = λ i x is. (x, inl is, grows_same x);
   gone = prefix-refl v.gone;

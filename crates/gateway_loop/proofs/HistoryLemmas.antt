@@ -1,11 +1,14 @@
 -- How the history goes on that holds of a loop's clients, at each call of the core.
-use Rattle.gateway_loop.proofs.Words.{Ready, ◌≡◌, ℕ, ◌<◌, ◌≤◌, Bool, true, false, List, [], ◌∷◌, ◌++◌, All, All-push, Option, None, Some, refl, sym, ap, ◌∙◌, subst, append-nil, inl, inr, ◌==◌, max, not, unwrap_or, AllZip, reverse-append, All-weaker, PlanRecord, Outcome, Event, BranchResult, Closing, Drain, Moment, connections, is_open, stream, History, after_event, after_jobs, after_opening, no_history, JobValue, call_id, marked, IsPrefixOf, queued, occurrences, GatewayValue, Served, ClientValue, ClosedValue, IsExplainedClient, IsUnused, client_value, Explains, GoesOn, HandsIn, LoopValue, at, latest, one_below, IsResultOf, ResultValue, moments, results, Fits, HasStood, Holds, HoldsRest, IsExplained, IsHeld, IsServing, Leads, MakesSteps, OpensNone, lingering, LoopLaws}
+use Rattle.gateway_loop.proofs.Words.{Ready, ◌≡◌, ℕ, ◌<◌, ◌≤◌, Bool, true, false, List, [], ◌∷◌, ◌++◌, All, All-push, length, Option, None, Some, refl, sym, ap, ◌∙◌, subst, append-nil, inl, inr, ◌==◌, max, not, unwrap_or, AllZip, reverse-append, All-weaker, PlanRecord, Outcome, Event, BranchResult, Closing, Drain, Moment, Opening, connections, is_open, stream, History, after_event, after_jobs, after_opening, no_history, JobValue, call_id, marked, IsPrefixOf, queued, occurrences, GatewayValue, Served, ClientValue, ClosedValue, IsExplainedClient, IsUnused, client_value, Explains, GoesOn, HandsIn, LoopValue, at, latest, one_below, IsResultOf, ResultValue, moments, results, Fits, HasStood, Holds, HoldsRest, IsExplained, IsHeld, IsServing, Leads, MakesSteps, OpensNone, lingering, LoopLaws}
 use Rattle.std.specs.Prelude.{reverse}
 use Rattle.std.proofs.lemmas.Bool.Decides.{nat_tests}
 use Rattle.std.proofs.Common.{arith}
 use Rattle.gateway_model.specs.declared.id.CallId.{CallId}
 use Rattle.gateway_loop.proofs.LeadLemmas.{Elsewhere, born_count, closing_elsewhere, extends_event, extends_jobs, extends_none, extends_opening, leads_event, leads_jobs, leads_none, leads_opening}
+use Rattle.gateway_loop.proofs.LivedLemmas.{lives_added, lives_left, lives_same}
 use Rattle.gateway_loop.proofs.StepLemmas.{born_fits, closes, fits_on, leaves, quiet_event}
+use Rattle.gateway_theory.specs.Served.{Adds}
+use Rattle.gateway_theory.specs.Told.{AddsEvent, LeavesLived}
 use Rattle.gateway_loop.proofs.CountLemmas.{count_same}
 use Rattle.gateway_loop.proofs.Places.{Put}
 use Rattle.gateway_loop.proofs.LoopLemmas.{SameRest, all_stood, held_comes, held_goes, held_steps, nobodys}
@@ -57,13 +60,14 @@ module _ (laws : LoopLaws) (l m : LoopValue) where
               (held_steps unknown laws l.core.plans l m h made.later i x y its steps.conn made.fits made.leads made.quiet made.opens puts gone rest s.held);
         },
         made.extends,
+        made.lives,
       )
 
   module _ (plans_are : m.core.plans ≡ l.core.plans) where
     -- the connection of a client closes, and it lingers
     pub goes_leaves : (i : ℕ) (x : ClientValue) (until : ℕ) → at i l.clients ≡ Some x → ((h : History) → Served l.core h → Served m.core (after_event (Closing x.conn) h))
-        → Put l.clients m.clients i (Some (lingering until x)) → m.gone ≡ l.gone → SameRest l m → GoesOn l m
-    goes_leaves i x until its takes puts gone rest = λ unknown h s.
+        → AddsEvent (Closing x.conn) l.core m.core → Put l.clients m.clients i (Some (lingering until x)) → m.gone ≡ l.gone → SameRest l m → GoesOn l m
+    goes_leaves i x until its takes adds puts gone rest = λ unknown h s.
         let k = after_event (Closing x.conn) h in (
           k,
           record {
@@ -73,12 +77,13 @@ module _ (laws : LoopLaws) (l m : LoopValue) where
                 (leads_event l.core.plans (λ c. c == x.conn) (Closing x.conn) h (λ c off. closing_elsewhere x.conn c off)) (quiet_event (Closing x.conn) h refl refl refl) refl puts gone rest s.held);
           },
           extends_event (Closing x.conn) h,
+          lives_added h.opened (Closing x.conn) h l.core m.core (adds h),
         )
 
     -- .. and it goes
     pub goes_gone : (i : ℕ) (x : ClientValue) → at i l.clients ≡ Some x → ((h : History) → Served l.core h → Served m.core (after_event (Closing x.conn) h))
-        → Put l.clients m.clients i None → m.gone ≡ l.gone ++ x ∷ [] → SameRest l m → GoesOn l m
-    goes_gone i x its takes puts gone rest = λ unknown h s.
+        → AddsEvent (Closing x.conn) l.core m.core → Put l.clients m.clients i None → m.gone ≡ l.gone ++ x ∷ [] → SameRest l m → GoesOn l m
+    goes_gone i x its takes adds puts gone rest = λ unknown h s.
         let k = after_event (Closing x.conn) h in (
           k,
           record {
@@ -88,13 +93,15 @@ module _ (laws : LoopLaws) (l m : LoopValue) where
                 (leads_event l.core.plans (λ c. c == x.conn) (Closing x.conn) h (λ c off. closing_elsewhere x.conn c off)) (quiet_event (Closing x.conn) h refl refl refl) refl puts gone rest s.held);
           },
           extends_event (Closing x.conn) h,
+          lives_added h.opened (Closing x.conn) h l.core m.core (adds h),
         )
 
     -- a client comes
     pub goes_comes : (i c : ℕ) (given got : List ℕ) (ended reads writes : Bool) (watched : Option (ℕ × Bool)) (reported : List Ready) → c ≡ l.core.opened → given ≡ [] → got ≡ [] → ended ≡ false
         → ((h : History) → Served l.core h → Served m.core (after_opening h))
+        → ((h : History) → Adds (h.opened ++ length h.events ∷ []) Opening h l.core m.core)
         → at i l.clients ≡ None → Put l.clients m.clients i (Some (client_value c false given got ended [] reads writes watched reported None)) → m.gone ≡ l.gone → SameRest l m → GoesOn l m
-    goes_comes i c given got ended reads writes watched reported number none_given none_got on takes vacant puts gone rest = λ unknown h s.
+    goes_comes i c given got ended reads writes watched reported number none_given none_got on takes adds vacant puts gone rest = λ unknown h s.
         let k = after_opening h in
         let below = s.serves.conns.below in
         let c_is : c ≡ connections h.opened h.events = number ∙ sym s.serves.conns.count_is in
@@ -109,6 +116,7 @@ module _ (laws : LoopLaws) (l m : LoopValue) where
                 (born_count h below) vacant puts gone rest s.held);
           },
           extends_opening h below,
+          lives_added (h.opened ++ length h.events ∷ []) Opening h l.core m.core (adds h),
         )
 
     -- ---- what concerns no client
@@ -125,22 +133,24 @@ module _ (laws : LoopLaws) (l m : LoopValue) where
 
     -- an event that concerns no client
     goes_event : (e : Event) → ((c : ℕ) → Elsewhere c e) → ((h : History) → OpensNone h (after_event e h)) → m.clients ≡ l.clients → m.gone ≡ l.gone
-        → ((h : History) → Served l.core h → Served m.core (after_event e h))
+        → ((h : History) → Served l.core h → Served m.core (after_event e h)) → AddsEvent e l.core m.core
         → ((unknown : Outcome) (h : History) → HoldsRest unknown h l → HoldsRest unknown (after_event e h) m) → GoesOn l m
-    goes_event e away opens clients gone takes rest = λ unknown h s. (
+    goes_event e away opens clients gone takes adds rest = λ unknown h s. (
       after_event e h,
       record {
         serves = takes h s.serves;
         held = held_all unknown h (after_event e h) clients gone (leads_event l.core.plans nobodys e h (λ c off. away c)) (opens h) (rest unknown h s.held.rest) s.held;
       },
       extends_event e h,
+      lives_added h.opened e h l.core m.core (adds h),
     )
 
     -- a moment was told, and handed in
     pub goes_moment : (told : ℕ) → m.clients ≡ l.clients → m.gone ≡ l.gone → SameRest (record l { told = l.told ++ told ∷ [] }) m
-        → ((h : History) → Served l.core h → Served m.core (after_event (Moment told) h)) → GoesOn l m
-    goes_moment told clients gone same takes =
-        goes_event (Moment told) (λ c. record { closing = refl; hang_up = refl; piece = refl }) (λ h. refl) clients gone takes
+        → ((h : History) → Served l.core h → Served m.core (after_event (Moment told) h))
+        → AddsEvent (Moment told) l.core m.core → GoesOn l m
+    goes_moment told clients gone same takes adds =
+        goes_event (Moment told) (λ c. record { closing = refl; hang_up = refl; piece = refl }) (λ h. refl) clients gone takes adds
         (λ unknown h r. record {
           told = rw (same.told, reverse-append l.told (told ∷ [])) (inl (moments h.events, refl, r.told));
           results = rw (same.results, append-nil (results h.events)) r.results;
@@ -151,9 +161,9 @@ module _ (laws : LoopLaws) (l m : LoopValue) where
 
     -- the drain began
     pub goes_drain : m.clients ≡ l.clients → m.gone ≡ l.gone → SameRest (record l { drained = true }) m
-        → ((h : History) → Served l.core h → Served m.core (after_event Drain h)) → GoesOn l m
-    goes_drain clients gone same takes =
-        goes_event Drain (λ c. record { closing = refl; hang_up = refl; piece = refl }) (λ h. refl) clients gone takes
+        → ((h : History) → Served l.core h → Served m.core (after_event Drain h)) → AddsEvent Drain l.core m.core → GoesOn l m
+    goes_drain clients gone same takes adds =
+        goes_event Drain (λ c. record { closing = refl; hang_up = refl; piece = refl }) (λ h. refl) clients gone takes adds
         (λ unknown h r. record {
           told = rw same.told r.told;
           results = rw (same.results, append-nil (results h.events)) r.results;
@@ -172,8 +182,9 @@ module _ (laws : LoopLaws) (l m : LoopValue) where
     -- a result was handed in: this one, whatever one is handed in where there was no memory for it
     pub goes_result : (job : JobValue) (call : CallId) (branch : ℕ) (given : Option Outcome) → call ≡ job.call → branch ≡ job.branch
         → m.clients ≡ l.clients → m.gone ≡ l.gone → SameRest (record l { results = l.results ++ (job, given) ∷ [] }) m
-        → ((unknown : Outcome) (h : History) → Served l.core h → Served m.core (after_event (BranchResult call.conn call.request branch (unwrap_or given unknown)) h)) → GoesOn l m
-    goes_result job call branch given call_is branch_is clients gone same takes = λ unknown h s.
+        → ((unknown : Outcome) (h : History) → Served l.core h → Served m.core (after_event (BranchResult call.conn call.request branch (unwrap_or given unknown)) h))
+        → ((unknown : Outcome) → AddsEvent (BranchResult call.conn call.request branch (unwrap_or given unknown)) l.core m.core) → GoesOn l m
+    goes_result job call branch given call_is branch_is clients gone same takes adds = λ unknown h s.
         let outcome = unwrap_or given unknown in
         let e = BranchResult call.conn call.request branch outcome in
         let r = s.held.rest in (
@@ -192,12 +203,14 @@ module _ (laws : LoopLaws) (l m : LoopValue) where
                 } s.held;
           },
           extends_event e h,
+          lives_added h.opened e h l.core m.core (adds unknown h),
         )
 
     -- jobs were taken
     pub goes_jobs : (jobs : List JobValue) → m.clients ≡ l.clients → m.gone ≡ l.gone → SameRest (record l { handed = l.handed ++ jobs }) m
-        → ((h : History) → Served l.core h → Served m.core (after_jobs jobs h)) → GoesOn l m
-    goes_jobs jobs clients gone same takes = λ unknown h s.
+        → ((h : History) → Served l.core h → Served m.core (after_jobs jobs h))
+        → LeavesLived jobs l.core m.core → GoesOn l m
+    goes_jobs jobs clients gone same takes left = λ unknown h s.
         let r = s.held.rest in (
           after_jobs jobs h,
           record {
@@ -211,6 +224,7 @@ module _ (laws : LoopLaws) (l m : LoopValue) where
             } s.held;
           },
           extends_jobs jobs h,
+          lives_left l.core m.core h (after_jobs jobs h) (left h),
         )
 
   -- no event came
@@ -223,6 +237,7 @@ module _ (laws : LoopLaws) (l m : LoopValue) where
         held = held_all (ap (λ (v : GatewayValue). v.plans) core) unknown h h clients gone (leads_none l.core.plans nobodys h) refl (rest unknown h s.held.rest) s.held;
       },
       extends_none h,
+      lives_same l.core m.core h core,
     )
 
     -- a moment was told that changes nothing

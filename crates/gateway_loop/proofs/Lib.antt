@@ -1,6 +1,7 @@
 pub mod Words
 pub mod Places
 pub mod LeadLemmas
+pub mod LivedLemmas
 pub mod StepLemmas
 pub mod SumLemmas
 pub mod CountLemmas

@@ -9,8 +9,10 @@ use Rattle.gateway_model.specs.declared.entry.ReplyEntry.{ReplyEntry}
 use Rattle.gateway_model.specs.Run.{bytes_of}
 use Rattle.gateway_theory.specs.Replies.{ReplyValue}
 use Rattle.gateway_theory.specs.Served.{with_reply}
+use Rattle.gateway_theory.specs.Told.{AddsEvent, LeavesReplied}
 use Rattle.gateway_theory.specs.lemmas.OneEvent.{kept_open, now_hung, shut_open}
 use Rattle.gateway_loop.proofs.LeadLemmas.{Elsewhere, born_is_open, born_known, born_on, born_queue, born_text, closing_elsewhere, follows_event, leads_event, leads_none, leads_reply, leads_then, extends_event, extends_none, extends_reply, extends_then}
+use Rattle.gateway_loop.proofs.LivedLemmas.{lives_added, lives_left, lives_none, lives_then}
 use Rattle.gateway_theory.specs.lemmas.ServedLemmas.{hung_still as kept_hung, text_still as kept_stream}
 
 pub prefix_then : (a b c : List ℕ) → IsPrefixOf a b → IsPrefixOf b c → IsPrefixOf a c
@@ -74,6 +76,7 @@ steps_fit v x y on = record {
     quiet = record { moments_are = refl; results_are = refl; drains_are = refl; handed_are = refl };
     opens = refl;
     extends = extends_none h;
+    lives = lives_none v h;
   };
 }
 
@@ -92,6 +95,7 @@ steps_then u v w x y z first second = record {
         quiet = quiet_then h a.later b.later a.quiet b.quiet;
         opens = b.opens ∙ a.opens;
         extends = extends_then h a.later b.later a.extends b.extends;
+        lives = lives_then u v w h a.later b.later second.plans a.extends b.extends a.lives b.lives;
       };
 }
 
@@ -127,10 +131,10 @@ steps_same v x = steps_fit v x x (fits_as_before x)
 
 -- by an event of its own
 pub steps_event : (v w : GatewayValue) (x y : ClientValue) (e : Event) → w.plans ≡ v.plans → y.conn ≡ x.conn
-    → ((h : History) → Served v h → Served w (after_event e h))
+    → ((h : History) → Served v h → Served w (after_event e h)) → AddsEvent e v w
     → ((plans : List PlanRecord) (h : History) → Fits plans h x → Fits plans (after_event e h) y)
     → ((c : ℕ) → (c == x.conn) ≡ false → Elsewhere c e) → moment_in e ≡ [] → result_in e ≡ [] → is_drain e ≡ false → is_opening e ≡ false → MakesSteps v w x y
-steps_event v w x y e same conn takes fits away no_moment no_result no_drain no_opening = record {
+steps_event v w x y e same conn takes adds fits away no_moment no_result no_drain no_opening = record {
   conn = conn;
   plans = same;
   steps = λ plans h are served f. record {
@@ -141,14 +145,16 @@ steps_event v w x y e same conn takes fits away no_moment no_result no_drain no_
     quiet = quiet_event e h no_moment no_result no_drain;
     opens = rw no_opening refl;
     extends = extends_event e h;
+    lives = lives_added h.opened e h v w (adds h);
   };
 }
 
 -- by a reply that was taken
 pub steps_reply : (v w : GatewayValue) (x y : ClientValue) (reply : Option ReplyValue) → w.plans ≡ v.plans → y.conn ≡ x.conn
     → ((h : History) → Served v h → Served w (after_reply x.conn reply h))
+    → LeavesReplied x.conn reply v w
     → ((plans : List PlanRecord) (h : History) → Fits plans h x → Fits plans (after_reply x.conn reply h) y) → MakesSteps v w x y
-steps_reply v w x y reply same conn takes fits = record {
+steps_reply v w x y reply same conn takes left fits = record {
   conn = conn;
   plans = same;
   steps = λ plans h are served f. record {
@@ -159,6 +165,7 @@ steps_reply v w x y reply same conn takes fits = record {
     quiet = record { moments_are = refl; results_are = refl; drains_are = refl; handed_are = refl };
     opens = refl;
     extends = extends_reply x.conn reply h;
+    lives = lives_left v w h (after_reply x.conn reply h) (left h);
   };
 }
 

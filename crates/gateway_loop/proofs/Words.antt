@@ -27,7 +27,7 @@ pub use Rattle.loop_model.specs.Asking.{StreamValue, BeginsRequest, AskingValue,
 pub use Rattle.loop_model.specs.Clients.{ClientValue, client_value, IsExplainedClient}
 pub use Rattle.loop_model.specs.Accounts.{Account, AccountsFor, AccountsOn, NetworkValue, with_more}
 pub use Rattle.loop_model.specs.Explained.{LoopValue, at, one_below, count_of, Explains}
-pub use Rattle.loop_model.specs.Histories.{Extends, GoesOn, IsExplained}
+pub use Rattle.loop_model.specs.Histories.{Extends, GoesOn, IsExplained, LivesMore, LivesOn}
 pub use Rattle.loop_model.specs.Holding.{Fits, HasStood, Holds, HoldsRest, IsHeld, Stands}
 pub use Rattle.loop_model.specs.Streams.{ClosedValue, IsUnused}
 pub use Rattle.loop_model.specs.Growing.{HasTicked, Grows, Continues}

@@ -13,7 +13,7 @@ use Rattle.gateway_theory.specs.Task.{HandedJob}
 use Rattle.loop_model.specs.Accounts.{NetworkValue, closed_client}
 use Rattle.loop_model.specs.Clients.{ClientValue}
 use Rattle.loop_model.specs.Explained.{LoopValue}
-use Rattle.loop_model.specs.Histories.{Extends}
+use Rattle.loop_model.specs.Histories.{Extends, LivesOn}
 use Rattle.loop_model.specs.Holding.{Fits, Holds}
 use Rattle.loop_model.specs.Standing.{count_clients}
 use Rattle.loop_model.specs.Streams.{ClosedValue}
@@ -74,7 +74,7 @@ abbrev pub OpensNone : History → History → Type 0
 OpensNone h k = connections k.opened k.events ≡ connections h.opened h.events
 
 -- the core and a client of it made steps of its connection, and of no other
-pub record Steps (plans : List PlanRecord) (w : GatewayValue) (x y : ClientValue) (h : History) : Type 0 where
+pub record Steps (plans : List PlanRecord) (v w : GatewayValue) (x y : ClientValue) (h : History) : Type 0 where
   pub later : History
   pub serves : Served w later
   pub fits : Fits plans later y
@@ -82,11 +82,12 @@ pub record Steps (plans : List PlanRecord) (w : GatewayValue) (x y : ClientValue
   pub quiet : IsQuiet h later
   pub opens : OpensNone h later
   pub extends : Extends h later
+  pub lives : LivesOn v h w later
 
 pub record MakesSteps (v w : GatewayValue) (x y : ClientValue) : Type 0 where
   pub conn : y.conn ≡ x.conn
   pub plans : w.plans ≡ v.plans
-  pub steps : (plans : List PlanRecord) (h : History) → v.plans ≡ plans → Served v h → Fits plans h x → Steps plans w x y h
+  pub steps : (plans : List PlanRecord) (h : History) → v.plans ≡ plans → Served v h → Fits plans h x → Steps plans v w x y h
 
 -- by no event: the client fits what it fitted
 pub record FitsOn (x y : ClientValue) : Type 0 where

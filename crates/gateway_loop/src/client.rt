@@ -8,7 +8,7 @@ ghost use Rattle.loop_model.specs.Streams.{closed_value};
 ghost use Rattle.gateway_loop.specs.Clients.{FitsOn, MakesSteps, lingering, watched_by};
 ghost use Rattle.gateway_model.specs.declared.event.Event.TheVariants.{HangUp, Piece};
 ghost use Rattle.gateway_loop.specs.Rests.{is_watched, is_written, rests_client, waits_client};
-ghost use Rattle.gateway_theory.specs.Told.{TakesEvent};
+ghost use Rattle.gateway_theory.specs.Told.{AddsEvent, TakesEvent};
 ghost use Rattle.gateway_theory.specs.Values.{shown};
 
 use crate::hints::Hints;
@@ -346,6 +346,7 @@ impl<W: Wire> Client<W> {
 /// Hands on a piece of the connection's stream that came.
 fn take_in<H: ReplyHook + Drop>(core: &mut Core<H>, conn: ConnId, piece: &[u8]) -> Heard
     ensures stands { TakesEvent (Piece conn piece.now) core.old core.new }
+    ensures adds { AddsEvent (Piece conn piece.now) core.old core.new }
     ensures plans { core.new.plans ≡ core.old.plans }
 {
     match deliver(core, conn, piece) {
@@ -357,6 +358,7 @@ fn take_in<H: ReplyHook + Drop>(core: &mut Core<H>, conn: ConnId, piece: &[u8]) 
 /// Tells that the peer of the connection has hung up.
 fn hang_up<H: ReplyHook + Drop>(core: &mut Core<H>, conn: ConnId)
     ensures stands { TakesEvent (HangUp conn) core.old core.new }
+    ensures adds { AddsEvent (HangUp conn) core.old core.new }
     ensures plans { core.new.plans ≡ core.old.plans }
 {
     let _ = core.hang_up(conn);

@@ -1,9 +1,10 @@
 -- What a loop with one job goes on with.
-use Rattle.std.proofs.Common.{◌≡◌, ℕ, zero, suc, List, [], ◌∷◌, ◌++◌, length, Option, None, Some, ap, arith, inr, refl, sym, ◌∙◌}
+use Rattle.std.proofs.Common.{◌≡◌, ℕ, ◌≤◌, zero, suc, List, [], ◌∷◌, ◌++◌, length, Option, None, Some, ap, arith, inr, refl, sym, ◌∙◌}
 use Rattle.std.proofs.lemmas.List.{length-append}
 use Rattle.std.proofs.lemmas.List.Elements.{All-nil}
 use Rattle.connect_codec.specs.declared.answer.Outcome.{Outcome}
 use Rattle.gateway_model.specs.Job.{JobValue}
+use Rattle.gateway_model.specs.Starts.{Placed}
 use Rattle.gateway_theory.specs.Values.{GatewayValue}
 use Rattle.gateway_theory.specs.lemmas.PastLemmas.{prefix-refl}
 use Rattle.http_pieces.specs.declared.framing.Framing.{Framing}
@@ -11,7 +12,7 @@ use Rattle.std.specs.declared.net.socket_addr.SocketAddr.{SocketAddr}
 use Rattle.loop_model.specs.Asking.{AskingValue, BeginsRequest, EndedValue, IsUntouched, ended_value, request_of}
 use Rattle.loop_model.specs.Clients.{ClientValue}
 use Rattle.loop_model.specs.Growing.{Continues}
-use Rattle.loop_model.specs.Histories.{Extends, GoesOn}
+use Rattle.loop_model.specs.Histories.{Extends, GoesOn, LivesOn}
 use Rattle.loop_model.specs.Explained.{LoopValue}
 use Rattle.gateway_model.specs.History.{History}
 use Rattle.loop_model.specs.Whole.{HasEndedSince, WholeLoop, asked_at}
@@ -36,8 +37,16 @@ none_there b e = cc
 pub extends_none : (h : History) → Extends h h
 extends_none h = record { later = []; events_are = refl; openings = λ place lt. refl; taken = λ c. prefix-refl (h.taken c); handed = prefix-refl h.handed }
 
+-- .. and nothing was lived
+lives_none : (v : GatewayValue) (h : History) → LivesOn v h v h
+lives_none v h = λ occurred o lived l. record {
+  later = [];
+  since = All-nil (λ (x : Placed). length h.events ≤ x.0);
+  lives = l;
+}
+
 pub goes_on : (l : LoopValue) → GoesOn l l
-goes_on l = λ unknown h held. (h, held, extends_none h)
+goes_on l = λ unknown h held. (h, held, extends_none h, lives_none l.core h)
 
 -- nobody is there, and this is more
 pub side_on : (f : Framing) (v : GatewayValue) (results more : List (JobValue × Option Outcome)) (handed : List JobValue)

@@ -1,11 +1,14 @@
 //! The worked rows of how a history goes on. The functions do nothing.
-ghost use Rattle.std.specs.Prelude.{◌∷◌, [], ℕ, List, None, Some};
+ghost use Rattle.std.specs.Prelude.{◌≡◌, ◌∷◌, ◌++◌, [], ℕ, List, None, Some};
 ghost use Rattle.gateway_model.specs.Events.{Before};
-ghost use Rattle.gateway_model.specs.History.{after_event, after_jobs, after_opening, no_history};
+ghost use Rattle.gateway_model.specs.History.{History, after_event, after_jobs, after_opening, no_history};
 ghost use Rattle.gateway_model.specs.Job.{JobValue};
+ghost use Rattle.gateway_model.specs.Occurrence.{Break, Drain as Drained, Moment as Came};
+ghost use Rattle.gateway_model.specs.Starts.{Placed};
 ghost use Rattle.gateway_model.specs.declared.event.Event.{Event};
 ghost use Rattle.gateway_model.specs.declared.event.Event.TheVariants.{Closing, Drain, HangUp, Moment, Opening, Piece};
-ghost use Rattle.loop_model.specs.Histories.{Extends};
+ghost use Rattle.gateway_theory.specs.Values.{GatewayValue};
+ghost use Rattle.loop_model.specs.Histories.{Extends, LivesMore};
 ghost use Rattle.loop_rows.specs.LoopRows.{after};
 
 /// A history goes on with more events behind those that had come, with openings that succeed among them, and with jobs.
@@ -25,4 +28,17 @@ fn histories_that_do_not()
     ensures between { Extends (after (Moment 3 ∷ [])) (after (Moment 3 ∷ Drain ∷ [])) → ⊥ }
     ensures refused { Extends (after_event Opening no_history) (after_opening no_history) → ⊥ }
     ensures taken_back { (j : JobValue) → Extends (after_jobs (j ∷ []) no_history) no_history → ⊥ }
+{}
+
+/// What was lived is not told anew: where no event came nothing more was lived. When one came, no connection breaks by
+/// an event that had come, and none that broke is whole again.
+fn lives_that_are_not_told_anew()
+    ensures nothing { (w : GatewayValue) (h : History) (lived : List Placed)
+        → (m : LivesMore h w h lived) → m.later ≡ [] }
+    ensures broken { (w : GatewayValue) (k : History)
+        → (m : LivesMore (after (Moment 3 ∷ [])) w k ((2, Came 3) ∷ []))
+        → m.later ++ (2, Came 3) ∷ [] ≡ (3, Drained) ∷ (2, Break 0) ∷ (2, Came 3) ∷ [] → ⊥ }
+    ensures whole { (w : GatewayValue) (k : History)
+        → (m : LivesMore (after (Moment 3 ∷ [])) w k ((2, Break 0) ∷ (2, Came 3) ∷ []))
+        → m.later ++ (2, Break 0) ∷ (2, Came 3) ∷ [] ≡ (3, Drained) ∷ (2, Came 3) ∷ [] → ⊥ }
 {}

@@ -9,7 +9,7 @@ returns-clause-steps g c =
     let none : i.outbox ≡ [] = c.is_empty.ensures.0 (search rules) in
     let not_left = ap (λ (x : ClientValue). x.lingers) c.self.view_is ∙ sym c.lingers.ensures ∙ c.if-lingers.false in
     rw (← c.self.view_is)
-    (steps_reply c.args.core.now c.take_reply.new.self _ _ (Some c.in-Some.reply) c.in-Some.ensures.only.plans_are refl c.in-Some.ensures.stands
+    (steps_reply c.args.core.now c.take_reply.new.self _ _ (Some c.in-Some.reply) c.in-Some.ensures.only.plans_are refl c.in-Some.ensures.stands c.in-Some.ensures.lives
     (fits_reply i.conn i.lingers (g.W.Wire.ended i.wire) (g.W.Wire.given i.wire) (g.W.Wire.got i.wire) i.outbox c.of.result c.in-Some.reply not_left none (c.of.ensures ∙ c.into_parts-id.ensures.bytes)))
 
 pub returns-clause-grows : goal.returns-clause-grows
@@ -24,7 +24,8 @@ returns-then-lingers-clause-grows g c = grows_same _
 pub returns-in_default-clause-steps : goal.returns-in_default-clause-steps
 returns-in_default-clause-steps g c =
     rw (← c.self.view_is)
-    (steps_reply c.args.core.now c.take_reply.new.self _ _ None c.in_default.ensures.only.plans_are refl c.in_default.ensures.stands (fits_no_reply c.self.inside.conn _))
+    (steps_reply c.args.core.now c.take_reply.new.self _ _ None c.in_default.ensures.only.plans_are refl c.in_default.ensures.stands
+    c.in_default.ensures.lives (fits_no_reply c.self.inside.conn _))
 
 pub returns-in_default-clause-grows : goal.returns-in_default-clause-grows
 returns-in_default-clause-grows g c = grows_same _

@@ -10,7 +10,7 @@ returns-else-self-2-clause-steps g c =
     let e = c.in-Bytes.ensures in
     let bytes = take c.in-Bytes.count c.read.new.piece in
     rw (← c.self.view_is)
-    (steps_event c.args.core.now c.take_in.new.core _ _ (Piece i.conn bytes) c.take_in.ensures.plans refl c.take_in.ensures.stands
+    (steps_event c.args.core.now c.take_in.new.core _ _ (Piece i.conn bytes) c.take_in.ensures.plans refl c.take_in.ensures.stands c.take_in.ensures.adds
     (fits_piece i.conn c.in-Bytes.count i.lingers (g.W.Wire.ended i.wire) _ (g.W.Wire.given i.wire) (g.W.Wire.got i.wire) i.outbox _ _ c.read.new.piece c.if-self-2.false e.given.2 e.got e.ended
     (c.self.invariant.0 ∙ c.if-self.false)) (λ d off. piece_elsewhere i.conn bytes d off) refl refl refl refl)
 
@@ -26,7 +26,7 @@ returns-else-self-3-clause-steps g c =
     let i = c.self.inside in
     let e = c.in-End.ensures in
     rw (← c.self.view_is)
-    (steps_event c.args.core.now c.hang_up.new.core _ _ (HangUp i.conn) c.hang_up.ensures.plans refl c.hang_up.ensures.stands
+    (steps_event c.args.core.now c.hang_up.new.core _ _ (HangUp i.conn) c.hang_up.ensures.plans refl c.hang_up.ensures.stands c.hang_up.ensures.adds
     (fits_hang_up i.conn i.lingers (g.W.Wire.ended i.wire) _ (g.W.Wire.given i.wire) (g.W.Wire.got i.wire) i.outbox _ _ c.if-self-3.false e.given e.got e.ended)
     (λ d off. hang_up_elsewhere i.conn d off) refl refl refl refl)
 

@@ -9,14 +9,18 @@ pub invariant_of-self-2 : goal.invariant_of-self-2
 invariant_of-self-2 g c =
     let i = c.self.inside in
     serves_on i.moment i.moment _ _ (goes_gone c.loop_laws.ensures _ _ c.close.ensures.keeps.plans_are c.args.place c.in-Some.client (sym c.in-Some.ensures.value)
-    (λ h s. rw (← c.conn.ensures) (c.close.ensures.stands h s)) (put_one i.clients c.try_remove.new.self c.args.place _ c.try_remove.ensures.updates) (noted i.gone.items c.and-self-inside.result.items _ _ c.and-self-inside.ensures) record { told = refl; results = refl; handed = refl; drained = refl; unserved = refl }) c.self.invariant.moment_is c.self.invariant
+    (λ h s. rw (← c.conn.ensures) (c.close.ensures.stands h s))
+    (λ h. rw (← c.conn.ensures) (c.close.ensures.adds h))
+    (put_one i.clients c.try_remove.new.self c.args.place _ c.try_remove.ensures.updates) (noted i.gone.items c.and-self-inside.result.items _ _ c.and-self-inside.ensures) record { told = refl; results = refl; handed = refl; drained = refl; unserved = refl }) c.self.invariant.moment_is c.self.invariant
 
 pub returns-clause-goes : goal.returns-clause-goes
 returns-clause-goes g c =
     let i = c.self.inside in
     rw (← c.self.view_is)
     (onward _ _ refl (continues_go _ _ (goes_gone c.loop_laws.ensures _ _ c.close.ensures.keeps.plans_are c.args.place c.in-Some.client (sym c.in-Some.ensures.value)
-    (λ h s. rw (← c.conn.ensures) (c.close.ensures.stands h s)) (put_one i.clients c.try_remove.new.self c.args.place _ c.try_remove.ensures.updates) (noted i.gone.items c.and-self-inside.result.items _ _ c.and-self-inside.ensures) record { told = refl; results = refl; handed = refl; drained = refl; unserved = refl }) c.close.ensures.keeps.plans_are record { told = refl; results = refl; handed = refl; drained = refl; unserved = refl } c.args.place c.in-Some.client (sym c.in-Some.ensures.value)
+    (λ h s. rw (← c.conn.ensures) (c.close.ensures.stands h s))
+    (λ h. rw (← c.conn.ensures) (c.close.ensures.adds h))
+    (put_one i.clients c.try_remove.new.self c.args.place _ c.try_remove.ensures.updates) (noted i.gone.items c.and-self-inside.result.items _ _ c.and-self-inside.ensures) record { told = refl; results = refl; handed = refl; drained = refl; unserved = refl }) c.close.ensures.keeps.plans_are record { told = refl; results = refl; handed = refl; drained = refl; unserved = refl } c.args.place c.in-Some.client (sym c.in-Some.ensures.value)
     (put_one i.clients c.try_remove.new.self c.args.place _ c.try_remove.ensures.updates) (noted i.gone.items c.and-self-inside.result.items _ _ c.and-self-inside.ensures)))
 
 pub returns-clause-leaves : goal.returns-clause-leaves

@@ -12,7 +12,7 @@ pub invariant_of-self-2 : goal.invariant_of-self-2
 invariant_of-self-2 g c =
     let i = c.self.inside in
     rw c.max-self-inside.ensures
-    (serves_on i.moment _ _ _ (goes_moment c.loop_laws.ensures _ _ c.moment-broke.ensures.keeps.plans_are c.moment-moment.result refl refl record { told = (noted i.told.items c.and-self-inside.result.items _ _ c.and-self-inside.ensures); results = refl; handed = refl; drained = refl; unserved = refl } c.moment-broke.ensures.stands) (moment_later _ _ c.moment-moment.result i.moment (noted i.told.items c.and-self-inside.result.items _ _ c.and-self-inside.ensures) c.self.invariant.moment_is) c.self.invariant)
+    (serves_on i.moment _ _ _ (goes_moment c.loop_laws.ensures _ _ c.moment-broke.ensures.keeps.plans_are c.moment-moment.result refl refl record { told = (noted i.told.items c.and-self-inside.result.items _ _ c.and-self-inside.ensures); results = refl; handed = refl; drained = refl; unserved = refl } c.moment-broke.ensures.stands c.moment-broke.ensures.adds) (moment_later _ _ c.moment-moment.result i.moment (noted i.told.items c.and-self-inside.result.items _ _ c.and-self-inside.ensures) c.self.invariant.moment_is) c.self.invariant)
 
 pub returns-then-not-is_due-clause-goes : goal.returns-then-not-is_due-clause-goes
 returns-then-not-is_due-clause-goes g c =
@@ -24,7 +24,7 @@ pub returns-clause-goes : goal.returns-clause-goes
 returns-clause-goes g c =
     let i = c.self.inside in
     rw (← c.self.view_is)
-    (onward _ _ refl (continues_all _ _ (goes_moment c.loop_laws.ensures _ _ c.moment-broke.ensures.keeps.plans_are c.moment-moment.result refl refl record { told = (noted i.told.items c.and-self-inside.result.items _ _ c.and-self-inside.ensures); results = refl; handed = refl; drained = refl; unserved = refl } c.moment-broke.ensures.stands) c.moment-broke.ensures.keeps.plans_are refl refl (prefix-refl _) (begins_by _ _ (c.moment-moment.result ∷ []) (noted i.told.items c.and-self-inside.result.items _ _ c.and-self-inside.ensures))
+    (onward _ _ refl (continues_all _ _ (goes_moment c.loop_laws.ensures _ _ c.moment-broke.ensures.keeps.plans_are c.moment-moment.result refl refl record { told = (noted i.told.items c.and-self-inside.result.items _ _ c.and-self-inside.ensures); results = refl; handed = refl; drained = refl; unserved = refl } c.moment-broke.ensures.stands c.moment-broke.ensures.adds) c.moment-broke.ensures.keeps.plans_are refl refl (prefix-refl _) (begins_by _ _ (c.moment-moment.result ∷ []) (noted i.told.items c.and-self-inside.result.items _ _ c.and-self-inside.ensures))
     (prefix-refl _) (prefix-refl _)))
 
 pub returns-then-not-is_due-clause-told : goal.returns-then-not-is_due-clause-told
