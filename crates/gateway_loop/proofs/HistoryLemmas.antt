@@ -5,7 +5,7 @@ use Rattle.std.proofs.lemmas.Bool.Decides.{nat_tests}
 use Rattle.std.proofs.Common.{arith}
 use Rattle.gateway_model.specs.declared.id.CallId.{CallId}
 use Rattle.gateway_loop.proofs.LeadLemmas.{Elsewhere, born_count, closing_elsewhere, extends_event, extends_jobs, extends_none, extends_opening, leads_event, leads_jobs, leads_none, leads_opening}
-use Rattle.gateway_loop.proofs.LivedLemmas.{lives_added, lives_left, lives_same}
+use Rattle.gateway_loop.proofs.LivedLemmas.{known_by, lives_added, lives_left, lives_same}
 use Rattle.gateway_loop.proofs.StepLemmas.{born_fits, closes, fits_on, leaves, quiet_event}
 use Rattle.gateway_theory.specs.Served.{Adds}
 use Rattle.gateway_theory.specs.Told.{AddsEvent, LeavesLived}
@@ -298,6 +298,8 @@ explained laws moment l s = record { holds = s.holds; explains = λ unknown h he
     explains_by : (unknown : Outcome) (h : History) → Holds unknown h l → Explains unknown h l
     explains_by unknown h held = record {
       knows = λ occurred all. laws.known l.core h occurred held.serves all;
+      lives = held.serves.stands;
+      known_by = λ lived was. known_by laws l.core h lived held.serves was;
       clients = λ i x is. (fits_explained laws l.core h x held.serves (held.held.fits i x is)).0;
       taken = λ occurred all i x is off. ((held.held.fits i x is).stands off).written occurred all;
       still_open = λ i x is. (fits_explained laws l.core h x held.serves (held.held.fits i x is)).1;

@@ -1,11 +1,16 @@
--- What was lived stays, breaks of connections among it, and what is lived more stands at its head.
-use Rattle.gateway_loop.proofs.Words.{◌≡◌, ℕ, ◌+◌, ◌<◌, ◌≤◌, List, [], ◌∷◌, ◌++◌, length, refl, sym, ap, ◌∙◌, subst, append_assoc, All-nil, All-weaker, arith, PlanRecord, Event, Before, Occurs, succeeds, History, Placed, GatewayValue, Extends, LivesMore, LivesOn}
+-- What was lived stays, breaks of connections among it, and what is lived more stands at its head. The core is known by it.
+use Rattle.gateway_loop.proofs.Words.{◌≡◌, ℕ, ◌+◌, ◌<◌, ◌≤◌, List, [], ◌∷◌, ◌++◌, length, refl, sym, ap, ◌∙◌, subst, append_assoc, All-nil, All-weaker, arith, PlanRecord, Event, Before, Occurs, succeeds, History, Placed, GatewayValue, Served, Extends, IsKnownBy, LivesMore, LivesOn, LoopLaws, marked, occurrences, shown}
 use Rattle.std.proofs.lemmas.List.{length-append}
 use Rattle.std.proofs.lemmas.List.Elements.{All-append, All-map}
+use Rattle.gateway_model.specs.Ahead.{ends_calls, least_deadline}
+use Rattle.gateway_model.specs.Breaks.{by_events}
 use Rattle.gateway_model.specs.Occurrence.{Occurrence}
 use Rattle.gateway_theory.specs.Core.{at_place, then_came}
+use Rattle.gateway_theory.specs.Gateway.{core_of}
 use Rattle.gateway_theory.specs.Served.{Adds, Lives}
+use Rattle.gateway_theory.specs.lemmas.Ahead.{deadline_all, ends_all}
 use Rattle.gateway_theory.specs.lemmas.CutLemmas.{IsSame, at_same, same_next}
+use Rattle.gateway_theory.specs.lemmas.Knowing.{broken_shown, idle_shown, outs_shown, queue_shown, records_shown}
 
 -- ---- what occurred before
 
@@ -102,3 +107,40 @@ lives_then u v w h k l plans one two first second = λ occurred o lived was.
       since = All-append (Since h) b.later a.later newer a.since;
       lives = subst (λ (x : List Placed). Lives w l x) (sym (append_assoc b.later a.later lived)) b.lives;
     }
+
+-- ---- what is known
+
+-- the core is known by what was lived
+pub known_by : (laws : LoopLaws) (v : GatewayValue) (h : History) (lived : List Placed) → Served v h → Lives v h lived
+    → IsKnownBy (shown v) h lived
+known_by laws v h lived served l =
+    let known = laws.known v h (by_events lived) served l.occurs in
+    let w = core_of v in
+    let os = occurrences lived in
+    let past = marked os in (
+      record {
+        lived = lived;
+        same = refl;
+        in_order = l.in_order;
+        breaks = l.breaks;
+        open_are = known.open_are;
+        broken_are = λ c there. broken_shown w.now w.conns w.opened h.taken h.handed w.waiting os l.stands c there;
+        queue_is = λ c there. queue_shown w.now w.conns w.opened h.taken h.handed w.waiting os l.stands c there;
+        jobs_are = l.stands.jobs_are;
+        outs_are = λ id. outs_shown w.now w.conns w.opened h.taken h.handed w.waiting os l.stands id.conn id.request;
+        records_are = λ id. records_shown w.now w.conns w.opened h.taken h.handed w.waiting os l.stands id.conn id.request;
+        records = known.records;
+        idle_are = λ c there. idle_shown w.now w.conns w.opened h.taken h.handed w.waiting os l.stands c there;
+        ended_are = known.ended_are;
+        idle_gone = known.idle_gone;
+        ended_gone = known.ended_gone;
+        deadline_is =
+            deadline_all w.now w.conns h.taken h.handed w.waiting os l.stands w.opened
+            ∙ ap (λ (n : ℕ). least_deadline n past) (sym l.conns.count_is);
+        ends_are = λ m.
+            ends_all w.now w.conns h.taken h.handed w.waiting os l.stands w.opened m
+            ∙ ap (λ (n : ℕ). ends_calls n m past) (sym l.conns.count_is);
+        limit = known.limit;
+      },
+      refl,
+    )

@@ -26,7 +26,7 @@ pub use Rattle.http_pieces.specs.declared.framing.Framing.{Framing}
 pub use Rattle.loop_model.specs.Asking.{StreamValue, BeginsRequest, AskingValue, EndedValue, IsFair, ended_value, IsUntouched, request_of, stream_value}
 pub use Rattle.loop_model.specs.Clients.{ClientValue, client_value, IsExplainedClient}
 pub use Rattle.loop_model.specs.Accounts.{Account, AccountsFor, AccountsOn, NetworkValue, with_more}
-pub use Rattle.loop_model.specs.Explained.{LoopValue, at, one_below, count_of, Explains}
+pub use Rattle.loop_model.specs.Explained.{LoopValue, at, one_below, count_of, Explains, IsKnownBy}
 pub use Rattle.loop_model.specs.Histories.{Extends, GoesOn, IsExplained, LivesMore, LivesOn}
 pub use Rattle.loop_model.specs.Holding.{Fits, HasStood, Holds, HoldsRest, IsHeld, Stands}
 pub use Rattle.loop_model.specs.Streams.{ClosedValue, IsUnused}

@@ -3,12 +3,14 @@ use Rattle.std.specs.Prelude.{◌≡◌, ℕ, ◌+◌, ◌==◌, Bool, false, if
 use Rattle.std.specs.List.{AllZip}
 use Rattle.std.specs.Option.{option_map_or}
 use Rattle.connect_codec.specs.declared.answer.Outcome.{Outcome}
+use Rattle.gateway_model.specs.Breaks.{by_events}
 use Rattle.gateway_model.specs.Events.{Occurs, connections, is_open}
 use Rattle.gateway_model.specs.History.{History}
 use Rattle.gateway_model.specs.Job.{JobValue}
-use Rattle.gateway_model.specs.Known.{IsKnown}
+use Rattle.gateway_model.specs.Known.{IsKnown, Shown}
 use Rattle.gateway_model.specs.Run.{bytes_of}
 use Rattle.gateway_model.specs.Starts.{Placed}
+use Rattle.gateway_theory.specs.Served.{Lives}
 use Rattle.gateway_theory.specs.Values.{GatewayValue, shown}
 use Rattle.loop_model.specs.Clients.{ClientValue, IsExplainedClient}
 use Rattle.loop_model.specs.Streams.{ClosedValue, IsUnused}
@@ -43,11 +45,20 @@ abbrev pub count_of : ℕ → LoopValue → ℕ
 count_of c l =
     count_by (λ (o : Option ClientValue). option_map_or (λ (x : ClientValue). x.conn == c) o false) l.clients + count_by (λ (x : ClientValue). x.conn == c) l.gone
 
+-- the core is known by what was lived, with these breaks of connections and no others
+abbrev pub IsKnownBy : Shown → History → List Placed → Type 0
+IsKnownBy s history lived = (known : IsKnown s history (by_events lived)) × (known.lived ≡ lived)
+
 -- The core stands for the history, which explains each client, present or gone, each moment and each result, if this is what those branches
 -- ended with for whose outcome there was no memory. The drain is in it if the loop was told to drain, and else not. No byte went over a stream
 -- that was not taken in.
 pub record Explains (unknown : Outcome) (history : History) (l : LoopValue) : Type 0 where
   pub knows : (occurred : List Placed) → Occurs l.core.plans history.opened history.events occurred → IsKnown (shown l.core) history occurred
+  -- whatever occurred, breaks of connections were lived among it; and whatever was lived, the core is known by that. What else `Lives` says
+  -- need not be read
+  pub lives : (occurred : List Placed) → Occurs l.core.plans history.opened history.events occurred
+      → (lived : List Placed) × (by_events lived ≡ occurred) × Lives l.core history lived
+  pub known_by : (lived : List Placed) → Lives l.core history lived → IsKnownBy (shown l.core) history lived
   pub clients : (i : ℕ) (x : ClientValue) → at i l.clients ≡ Some x → IsExplainedClient l.core.plans history x
   -- what was written to one whose connection is open, and then what waits, is all that was taken of its queue
   pub taken : (occurred : List Placed) → Occurs l.core.plans history.opened history.events occurred

@@ -1,13 +1,18 @@
 //! The worked rows of how a history goes on. The functions do nothing.
-ghost use Rattle.std.specs.Prelude.{◌≡◌, ◌∷◌, ◌++◌, [], ℕ, List, None, Some};
+ghost use Rattle.std.specs.Prelude.{◌≡◌, ◌∷◌, ◌++◌, [], ℕ, List, None, Some, true};
+ghost use Rattle.connect_codec.specs.declared.answer.Outcome.{Outcome};
 ghost use Rattle.gateway_model.specs.Events.{Before};
 ghost use Rattle.gateway_model.specs.History.{History, after_event, after_jobs, after_opening, no_history};
 ghost use Rattle.gateway_model.specs.Job.{JobValue};
 ghost use Rattle.gateway_model.specs.Occurrence.{Break, Drain as Drained, Moment as Came};
-ghost use Rattle.gateway_model.specs.Starts.{Placed};
+ghost use Rattle.gateway_model.specs.Past.{is_broken, marked};
+ghost use Rattle.gateway_model.specs.Queue.{queued_entries};
+ghost use Rattle.gateway_model.specs.Starts.{Placed, occurrences};
 ghost use Rattle.gateway_model.specs.declared.event.Event.{Event};
 ghost use Rattle.gateway_model.specs.declared.event.Event.TheVariants.{Closing, Drain, HangUp, Moment, Opening, Piece};
-ghost use Rattle.gateway_theory.specs.Values.{GatewayValue};
+ghost use Rattle.gateway_theory.specs.Served.{Lives};
+ghost use Rattle.gateway_theory.specs.Values.{GatewayValue, shown};
+ghost use Rattle.loop_model.specs.Explained.{Explains, LoopValue};
 ghost use Rattle.loop_model.specs.Histories.{Extends, LivesMore};
 ghost use Rattle.loop_rows.specs.LoopRows.{after};
 
@@ -41,4 +46,14 @@ fn lives_that_are_not_told_anew()
     ensures whole { (w : GatewayValue) (k : History)
         → (m : LivesMore (after (Moment 3 ∷ [])) w k ((2, Break 0) ∷ (2, Came 3) ∷ []))
         → m.later ++ (2, Break 0) ∷ (2, Came 3) ∷ [] ≡ (3, Drained) ∷ (2, Came 3) ∷ [] → ⊥ }
+{}
+
+/// What was lived is known: by that an open connection is broken or is not, and its queue is that.
+fn lives_that_are_known()
+    ensures broken { (u : Outcome) (h : History) (l : LoopValue) → Explains u h l
+        → (lived : List Placed) → Lives l.core h lived → (c : ℕ) → (shown l.core).is_open c ≡ true
+        → (shown l.core).is_broken c ≡ is_broken c (marked (occurrences lived)) }
+    ensures queued { (u : Outcome) (h : History) (l : LoopValue) → Explains u h l
+        → (lived : List Placed) → Lives l.core h lived → (c : ℕ) → (shown l.core).is_open c ≡ true
+        → h.taken c ++ (shown l.core).untaken c ≡ queued_entries c (marked (occurrences lived)) }
 {}
