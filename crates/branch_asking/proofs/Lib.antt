@@ -2,3 +2,4 @@ pub mod Words
 pub mod StreamLemmas
 pub mod AddressLemmas
 pub mod BegunLemmas
+pub mod Walks

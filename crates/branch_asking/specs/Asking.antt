@@ -152,6 +152,7 @@ asking_state framing job addresses attempt end tried = record {
 abbrev pub asked_for : AskingState → AskingValue
 asked_for x = record {
   job = x.job.job;
+  known = x.addresses.known;
   found = x.addresses.found;
   tried = x.tried;
   peer = x.attempt.peer;

@@ -146,6 +146,13 @@ impl<W: Wire> Asking<W> {
         &self.attempt
     }
 
+    /// Whether it goes over a stream. One that does not has no address yet.
+    pub fn has_stream(&self) -> bool
+        ensures { result ≡ is_some self.now.attempt.peer }
+    {
+        self.attempt.has_stream()
+    }
+
     /// Something became possible at its stream; whether that may be told of another's, too, that had the token before.
     pub fn report(&mut self, ready: Ready, is_shared: bool)
         ensures noted { self.new ≡ record self.old { attempt = noted_attempt ready self.old.attempt } }

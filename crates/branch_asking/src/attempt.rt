@@ -1,4 +1,4 @@
-ghost use Rattle.std.specs.Prelude.{◌≡◌, [], None, Some, IfSome, IsFalse, false, map, option_to_list};
+ghost use Rattle.std.specs.Prelude.{◌≡◌, [], None, Some, IfSome, IsFalse, false, is_some, map, option_to_list};
 ghost use Rattle.loop_model.specs.Asking.{IsUntouched};
 ghost use Rattle.loop_model.specs.Streams.{closed_value};
 ghost use Rattle.branch_asking.specs.Asking.{closed_now, Asks, HadStream, HasGrown, IsUnsent, IsUntouchedAttempt, Steps, attempt_value, noted_attempt, until_of};
@@ -88,6 +88,13 @@ impl<W: Wire> Attempt<W> {
         if let Some(stream) = &mut self.stream {
             stream.report(ready);
         }
+    }
+
+    /// Whether it has a stream.
+    pub(crate) fn has_stream(&self) -> bool
+        ensures { result ≡ is_some self.now.peer }
+    {
+        self.stream.is_some()
     }
 
     /// Whether its stream took a byte.

@@ -8,10 +8,12 @@ mod attempt;
 mod backend;
 mod branch_end;
 mod errand;
+mod names_asked;
 mod network;
 
 pub use asking::{Asking, Progress};
 pub use attempt::Attempt;
 pub use branch_end::BranchEnd;
 pub use errand::Errand;
+pub use names_asked::NamesAsked;
 pub use network::Network;

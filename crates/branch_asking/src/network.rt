@@ -1,6 +1,6 @@
 ghost use Rattle.loop_model.specs.Accounts.{NetworkValue};
 ghost use Rattle.loop_model.specs.Streams.{closed_value};
-ghost use Rattle.std.specs.Prelude.{◌≡◌, ◌∷◌, ◌++◌, [], false, true, None, Some, IsTrue};
+ghost use Rattle.std.specs.Prelude.{◌≡◌, ◌∷◌, ◌++◌, [], false, true, None, Some, IsFalse, IsTrue};
 
 use crate::branch_end::BranchEnd;
 use gateway_core::{CallId, ConnId, Job, ReplyEntry, RequestLabel};
@@ -48,7 +48,8 @@ pub trait Network<W: Wire> {
 
     /// Has the name, `host:port`, looked up: a `LookedUp` tells later what came of it. False where it can't.
     fn look_up(&mut self, name: &str) -> bool
-        ensures same { value self.new ≡ value self.old };
+        ensures asked { IsTrue result → value self.new ≡ record (value self.old) { asked = (value self.old).asked ++ name.now ∷ [] } }
+        ensures same { IsFalse result → value self.new ≡ value self.old };
 
     /// Is told that the reply to this request was written whole to the client, or that its write failed. The label is
     /// what a log tells of the request.

@@ -11,7 +11,7 @@ use admin::{LoopCounts, ServedNames};
 use call_plan::Plans;
 use crossbeam_channel::Receiver;
 use gateway_core::{CallId, ConnId, Job, ReplyEntry, RequestLabel};
-use gateway_loop::{BranchEnd, Comings, EventLoop, Network, NextTurn, Ready};
+use gateway_loop::{BranchEnd, Comings, EventLoop, NamesAsked, Network, NextTurn, Ready};
 use http_pieces::Framing;
 use http_server::Log;
 use mio::event::Event;
@@ -220,19 +220,20 @@ pub(crate) struct MioNetwork<M> {
     side: Arc<LoopSide>,
     resolver: Arc<Resolver>,
     log: Option<LoopLog>,
-    // for proofs: the moments that it told, and the streams that it made, by their addresses, and closed
+    // for proofs: the moments that it told, the streams that it made, by their addresses, and closed, and the names that
+    // it took to look up
     told: Log<u64, ()>,
     made: Log<SocketAddr, ()>,
     closed: Log<Told<Socket>, ()>,
+    asked: NamesAsked,
 }
 
 impl<M> Model for MioNetwork<M> {
-    ghost use Rattle.loop_model.specs.Accounts.{NetworkValue};
-    ghost use Rattle.connect_gateway.specs.Networks.{network_value};
+    ghost use Rattle.loop_model.specs.Accounts.{NetworkValue, network_value};
 
     ghost Value = { NetworkValue };
 
-    ghost view = { λ n. network_value n.told.items n.made.items n.closed.items };
+    ghost view = { λ n. network_value n.told.items n.made.items n.closed.items n.asked.items };
 }
 
 impl<M: Host> MioNetwork<M> {
@@ -259,6 +260,7 @@ impl<M: Host> MioNetwork<M> {
             told: Log::new(),
             made: Log::new(),
             closed: Log::new(),
+            asked: NamesAsked::new(),
         })
     }
 
@@ -336,7 +338,11 @@ impl<M: NetHost> Network<Told<Socket>> for MioNetwork<M> {
     }
 
     fn look_up(&mut self, name: &str) -> bool {
-        self.resolver.ask(&self.rt, name, &self.side).is_some()
+        if self.resolver.ask(&self.rt, name, &self.side).is_none() {
+            return false;
+        }
+        self.asked = self.asked.and(name);
+        true
     }
 
     fn tell_reply(

@@ -1,19 +1,51 @@
 -- How each step changes what a loop's lists say of its streams.
-use Rattle.gateway_loop.proofs.Words.{◌≡◌, ℕ, ◌+◌, Bool, cond, List, [], ◌∷◌, ◌++◌, length, map, Option, None, Some, refl, sym, ap, ◌∙◌, subst, arith, append_assoc, append-nil, ⊎_elim, count_by, sum_by, option_map, slice_index_or, option_map_or, map-append, sum_by-append, sum_by-cons, Outcome, SocketAddr, AskingState, AskingValue, ClientValue, EndedValue, LoopValue, StreamValue, asked_for, ended_value, whole_loop, Beside, FoundValue, beside, WholeLoop, Framing}
+use Rattle.gateway_loop.proofs.Words.{◌≡◌, ℕ, ◌+◌, Bool, cond, List, [], ◌∷◌, ◌++◌, length, map, Option, None, Some, refl, sym, ap, ◌∙◌, subst, arith, append_assoc, append-nil, ⊎_elim, count_by, sum_by, option_map, slice_index_or, option_map_or, map-append, sum_by-append, sum_by-cons, Outcome, SocketAddr, AskingState, AskingValue, ClientValue, EndedValue, LoopValue, StreamValue, asked_for, ended_value, whole_loop, Beside, FoundValue, beside, WholeLoop, Framing, Contains}
 use Rattle.gateway_loop.specs.Loop.{StartsLoop}
 use Rattle.std.proofs.lemmas.List.{length-append}
-use Rattle.loop_model.specs.Accounts.{Account, AccountsFor, NetworkValue, closed_client, closed_stream, count_dealt, count_left, count_made, first_account, stream_now, streams_before, with_more}
+use Rattle.loop_model.specs.Accounts.{Account, AccountsFor, AccountsOn, NetworkValue, closed_client, closed_stream, count_dealt, count_left, count_made, first_account, stream_now, streams_before, with_more}
 use Rattle.loop_model.specs.Asking.{peers_of}
+use Rattle.loop_model.specs.Found.{Asked, Found, IsAwaited, LookUp, asked_in, found_in}
 use Rattle.loop_model.specs.Standing.{count_clients}
 use Rattle.loop_model.specs.Streams.{ClosedValue}
 use Rattle.branch_asking.specs.Streams.{Connects, GoesOver, HasStreamsOf}
 use Rattle.gateway_loop.specs.Clients.{HasCome, HasGone, IsStill, IsTold, IsTurnedAway, LetsGo, TakesIn}
 use Rattle.gateway_loop.specs.Closing.{ClosesFrom}
+use Rattle.gateway_loop.specs.Names.{AreSame, AsksFor, IsAskedFor, Leaves}
+use Rattle.gateway_loop.proofs.NameLemmas.{asked_append, awaited_beside, awaited_now, awaited_still, found_append, none_there}
 use Rattle.gateway_loop.proofs.Places.{Put}
 use Rattle.gateway_loop.proofs.SumLemmas.{sum_map, sum_put}
 
 pub count_append : {A : Type 0} (p : A → Bool) (xs ys : List A) → count_by p (xs ++ ys) ≡ count_by p xs + count_by p ys
 count_append {A} p xs ys = sum_by-append (λ (x : A). cond (p x) 1 0) xs ys
+
+-- ---- names
+
+-- so many streams were dealt
+abbrev with_dealt : ℕ → Account → Account
+with_dealt dealt u = record u { dealt = u.dealt + dealt }
+
+-- nothing was done with names
+none_done : (dealt : ℕ) (u : Account) (b : NetworkValue) (w : WholeLoop) → AccountsFor (with_dealt dealt u) b w → (more : List LookUp) × (found_in more ≡ []) × AccountsFor (with_more dealt more u) b w
+none_done dealt u b w f =
+    ([], refl, subst (λ (l : List LookUp). AccountsFor (record { before = u.before; dealt = u.dealt + dealt; lookups = l }) b w) (sym (append-nil u.lookups)) f)
+
+-- .. and no stream was dealt
+pub done_alone : {a b : NetworkValue} (v w : WholeLoop) → ((u : Account) → AccountsFor u a v → AccountsFor u b w) → AccountsOn 0 [] a b v w
+done_alone {a} {b} v w step u f =
+    let none : u.dealt ≡ u.dealt + 0 = omega arith in
+    none_done 0 u b w (subst (λ (d : ℕ). AccountsFor (record { before = u.before; dealt = d; lookups = u.lookups }) b w) none (step u f))
+
+-- one after the other
+pub done_then : {a b c : NetworkValue} (n m : ℕ) (first last : List FoundValue) (u v w : WholeLoop) → AccountsOn n first a b u v → AccountsOn m last b c v w → AccountsOn (n + m) (first ++ last) a c u w
+done_then {a} {b} {c} n m first last u v w p q x f =
+    let s = p x f in
+    let t = q (with_more n s.0 x) s.2 in
+    let dealt : (x.dealt + n) + m ≡ x.dealt + (n + m) = omega arith in (
+      s.0 ++ t.0,
+      found_append s.0 t.0 ∙ ap (λ (l : List FoundValue). l ++ found_in t.0) s.1 ∙ ap (λ (l : List FoundValue). first ++ l) t.1,
+      subst (λ (l : List LookUp). AccountsFor (record { before = x.before; dealt = x.dealt + (n + m); lookups = l }) c w) (append_assoc x.lookups s.0 t.0)
+          (subst (λ (d : ℕ). AccountsFor (record { before = x.before; dealt = d; lookups = (x.lookups ++ s.0) ++ t.0 }) c w) dealt t.2),
+    )
 
 -- ---- clients
 
@@ -42,7 +74,9 @@ module _ (framing : Framing) (asking : List (Option AskingState)) (ended : List 
         let gone = ap (λ (g : List ClientValue). length g) s.gone in
         let away = ap (λ (g : List ClosedValue). length g) s.unserved in
         omega (arith, before, there, gone, away);
+    asked = f.asked;
     found = f.found;
+    awaited = f.awaited;
   }
 
   -- a moment was told
@@ -62,7 +96,9 @@ module _ (framing : Framing) (asking : List (Option AskingState)) (ended : List 
         let gone = ap (λ (g : List ClientValue). length g) s.gone in
         let away = ap (λ (g : List ClosedValue). length g) s.unserved in
         omega (arith, before, there, gone, away);
+    asked = ap (λ (v : NetworkValue). v.asked) s.net ∙ f.asked;
     found = f.found;
+    awaited = f.awaited;
   }
 
   -- nobody was there to go
@@ -88,7 +124,9 @@ module _ (framing : Framing) (asking : List (Option AskingState)) (ended : List 
         let more = ap (λ (g : List ClientValue). length g) gone ∙ length-append l.gone (x ∷ []) in
         let away = ap (λ (g : List ClosedValue). length g) unserved in
         omega (arith, before, there, more, away);
+    asked = ap (λ (v : NetworkValue). v.asked) net ∙ f.asked;
     found = f.found;
+    awaited = f.awaited;
   }
 
   -- a client has gone
@@ -98,7 +136,7 @@ module _ (framing : Framing) (asking : List (Option AskingState)) (ended : List 
       (λ (gone : HasGone a b l m). one_goes a b s.told s.unserved gone u f) s.one
 
   one_comes : (a b : NetworkValue) → m.told ≡ l.told → m.gone ≡ l.gone → HasCome a b l m
-      → (u : Account) → AccountsFor u a (whole_loop framing l asking ended rest) → AccountsFor (with_more 1 [] u) b (whole_loop framing m asking ended rest)
+      → (u : Account) → AccountsFor u a (whole_loop framing l asking ended rest) → AccountsFor (with_dealt 1 u) b (whole_loop framing m asking ended rest)
   one_comes a b told gone (net, unserved, there) u f = record {
     told = ap (λ (v : NetworkValue). v.told) net ∙ f.told ∙ ap (λ (t : List ℕ). u.before.told ++ t) (sym told);
     made = λ p. ap (λ (v : NetworkValue). count_by p v.made) net ∙ f.made p;
@@ -113,11 +151,13 @@ module _ (framing : Framing) (asking : List (Option AskingState)) (ended : List 
         let same = ap (λ (g : List ClientValue). length g) gone in
         let away = ap (λ (g : List ClosedValue). length g) unserved in
         omega (arith, before, there, same, away);
-    found = append-nil u.found ∙ f.found;
+    asked = ap (λ (v : NetworkValue). v.asked) net ∙ f.asked;
+    found = f.found;
+    awaited = f.awaited;
   }
 
   one_away : (a b : NetworkValue) → m.told ≡ l.told → m.gone ≡ l.gone → IsTurnedAway a b l m
-      → (u : Account) → AccountsFor u a (whole_loop framing l asking ended rest) → AccountsFor (with_more 1 [] u) b (whole_loop framing m asking ended rest)
+      → (u : Account) → AccountsFor u a (whole_loop framing l asking ended rest) → AccountsFor (with_dealt 1 u) b (whole_loop framing m asking ended rest)
   one_away a b told gone (s, net, unserved, there) u f = record {
     told = ap (λ (v : NetworkValue). v.told) net ∙ f.told ∙ ap (λ (t : List ℕ). u.before.told ++ t) (sym told);
     made = λ p. ap (λ (v : NetworkValue). count_by p v.made) net ∙ f.made p;
@@ -132,13 +172,16 @@ module _ (framing : Framing) (asking : List (Option AskingState)) (ended : List 
         let same = ap (λ (g : List ClientValue). length g) gone in
         let away = ap (λ (g : List ClosedValue). length g) unserved ∙ length-append l.unserved (s ∷ []) in
         omega (arith, before, there, same, away);
-    found = append-nil u.found ∙ f.found;
+    asked = ap (λ (v : NetworkValue). v.asked) net ∙ f.asked;
+    found = f.found;
+    awaited = f.awaited;
   }
 
   -- a stream was dealt
-  pub admits_accounts : (a b : NetworkValue) → TakesIn a b l m → (u : Account) → AccountsFor u a (whole_loop framing l asking ended rest) → AccountsFor (with_more 1 [] u) b (whole_loop framing m asking ended rest)
+  pub admits_accounts : (a b : NetworkValue) → TakesIn a b l m → AccountsOn 1 [] a b (whole_loop framing l asking ended rest) (whole_loop framing m asking ended rest)
   admits_accounts a b s u f =
-      ⊎_elim (λ (came : HasCome a b l m). one_comes a b s.told s.gone came u f) (λ (away : IsTurnedAway a b l m). one_away a b s.told s.gone away u f) s.one
+      none_done 1 u b (whole_loop framing m asking ended rest)
+      (⊎_elim (λ (came : HasCome a b l m). one_comes a b s.told s.gone came u f) (λ (away : IsTurnedAway a b l m). one_away a b s.told s.gone away u f) s.one)
 
 -- ---- jobs
 
@@ -186,7 +229,9 @@ module _ (framing : Framing) (l m : LoopValue) (old new : List (Option AskingSta
         let same = same_left p (asked_for x) (asked_for y) s in
         omega (arith, before, changed, same);
     dealt = f.dealt;
+    asked = f.asked;
     found = f.found;
+    awaited = f.awaited;
   }
 
   -- .. over another
@@ -211,7 +256,9 @@ module _ (framing : Framing) (l m : LoopValue) (old new : List (Option AskingSta
         ap (count_by p) s.left ∙ count_append p (streams_before (asked_for x)) (stream_now (asked_for x)) in
         omega (arith, before, changed, net, left);
     dealt = f.dealt;
+    asked = ap (λ (v : NetworkValue). v.asked) s.net ∙ f.asked;
     found = f.found;
+    awaited = f.awaited;
   }
 
   pub connects_accounts : (a b : NetworkValue) (x y : AskingState) → slice_index_or old i None ≡ Some x → Put old new i (Some y) → Connects a b (asked_for x) (asked_for y)
@@ -240,13 +287,15 @@ module _ (framing : Framing) (l m : LoopValue) (old new : List (Option AskingSta
             let fresh : left_of p (Some (asked_for y)) ≡ 0 = ap (λ (t : List StreamValue). count_by p (map (λ (v : StreamValue). closed_stream v) t)) none in
             omega (arith, before, changed, fresh);
         dealt = g.dealt;
+        asked = g.asked;
         found = g.found;
+        awaited = g.awaited;
       }
 
   -- one ended, and its stream is left
   pub end_accounts : (a b : NetworkValue) (x y : AskingState) (o : Option Outcome) (ended' : List (AskingState × Option Outcome)) (closing' streams : List ClosedValue) → IsStill l m → slice_index_or old i None ≡ Some x → Put old new i None
       → HasStreamsOf (asked_for x) (asked_for y) → ended' ≡ ended ++ (y, o) ∷ [] → streams ≡ stream_now (asked_for y) → ClosesFrom a b (streams ++ rest.closing) closing'
-      → (u : Account) → AccountsFor u a (whole_loop framing l old ended rest) → AccountsFor u b (whole_loop framing m new ended' (beside closing' rest.looked_up))
+      → (u : Account) → AccountsFor u a (whole_loop framing l old ended rest) → AccountsFor u b (whole_loop framing m new ended' (beside closing' rest.looked_up rest.waits))
   end_accounts a b x y o ended' closing' streams still was put same more stream closes u f =
       let g = still_accounts framing old ended rest l m a still u f in
       let shown : AskingState × Option Outcome → EndedValue = λ (d : AskingState × Option Outcome). ended_value (asked_for d.0) d.1 in
@@ -274,12 +323,14 @@ module _ (framing : Framing) (l m : LoopValue) (old new : List (Option AskingSta
             let both = count_append p (streams_before (asked_for y)) (stream_now (asked_for y)) in
             omega (arith, before, net, parts, its, changed, alike, total, last, both);
         dealt = g.dealt;
+        asked = closes.asked ∙ g.asked;
         found = g.found;
+        awaited = g.awaited;
       }
 
 -- streams that waited were closed
 pub closes_accounts : (framing : Framing) (l : LoopValue) (asking : List (Option AskingState)) (ended : List (AskingState × Option Outcome)) (rest : Beside) (closing : List ClosedValue) (a b : NetworkValue) → ClosesFrom a b rest.closing closing
-    → (u : Account) → AccountsFor u a (whole_loop framing l asking ended rest) → AccountsFor u b (whole_loop framing l asking ended (beside closing rest.looked_up))
+    → (u : Account) → AccountsFor u a (whole_loop framing l asking ended rest) → AccountsFor u b (whole_loop framing l asking ended (beside closing rest.looked_up rest.waits))
 closes_accounts framing l asking ended rest closing a b closes u f = record {
   told = closes.told ∙ f.told;
   made = λ p. ap (count_by p) closes.made ∙ f.made p;
@@ -288,19 +339,69 @@ closes_accounts framing l asking ended rest closing a b closes u f = record {
       let net = closes.each p in
       omega (arith, before, net);
   dealt = f.dealt;
+  asked = closes.asked ∙ f.asked;
   found = f.found;
+  awaited = f.awaited;
 }
 
--- a name was looked up
-pub found_accounts : (framing : Framing) (l : LoopValue) (asking : List (Option AskingState)) (ended : List (AskingState × Option Outcome)) (rest : Beside) (later : List FoundValue) (one : FoundValue) (a : NetworkValue) → later ≡ rest.looked_up ++ one ∷ []
-    → (u : Account) → AccountsFor u a (whole_loop framing l asking ended rest) → AccountsFor (with_more 0 (one ∷ []) u) a (whole_loop framing l asking ended (beside rest.closing later))
-found_accounts framing l asking ended rest later one a is u f = record {
-  told = f.told;
-  made = f.made;
-  closed = f.closed;
-  dealt = let before = f.dealt in omega (arith, before);
-  found = ap (λ (t : List FoundValue). t ++ one ∷ []) f.found ∙ sym is;
-}
+-- a name was looked up, for which nobody waits any more
+pub found_accounts : (framing : Framing) (l : LoopValue) (asking : List (Option AskingState)) (ended : List (AskingState × Option Outcome)) (rest : Beside) (later : List FoundValue) (waits : List (List ℕ)) (one : FoundValue) (a : NetworkValue)
+    → later ≡ rest.looked_up ++ one ∷ [] → Leaves one.name rest.waits waits
+    → AccountsOn 0 (one ∷ []) a a (whole_loop framing l asking ended rest) (whole_loop framing l asking ended (beside rest.closing later waits))
+found_accounts framing l asking ended rest later waits one a is left u f = (
+  Found one ∷ [],
+  refl,
+  record {
+    told = f.told;
+    made = f.made;
+    closed = f.closed;
+    dealt = let before = f.dealt in omega (arith, before);
+    asked = f.asked ∙ ap (λ (t : List (List ℕ)). u.before.asked ++ t) (sym (asked_append u.lookups (Found one ∷ []) ∙ append-nil (asked_in u.lookups)));
+    found = found_append u.lookups (Found one ∷ []) ∙ ap (λ (t : List FoundValue). t ++ one ∷ []) f.found ∙ sym is;
+    awaited = λ name there. let stayed = (left name).0 there in awaited_beside name one u.lookups stayed.1 (f.awaited name stayed.0);
+  },
+)
+
+-- a name was asked for, or none
+module _ (framing : Framing) (l : LoopValue) (asking : List (Option AskingState)) (ended : List (AskingState × Option Outcome)) (rest : Beside) (waits : List (List ℕ)) (name : List ℕ) (a b : NetworkValue) where
+  abbrev unasked : WholeLoop
+  unasked = whole_loop framing l asking ended rest
+
+  abbrev asked_for_name : WholeLoop
+  asked_for_name = whole_loop framing l asking ended (beside rest.closing rest.looked_up waits)
+
+  none_asked : (b ≡ a) × AreSame rest.waits waits → AccountsOn 0 [] a b unasked asked_for_name
+  none_asked (net, same) = done_alone unasked asked_for_name (λ u f. subst (λ (n : NetworkValue). AccountsFor u n asked_for_name) (sym net) record {
+    told = f.told;
+    made = f.made;
+    closed = f.closed;
+    dealt = f.dealt;
+    asked = f.asked;
+    found = f.found;
+    awaited = λ other there. f.awaited other ((same other).0 there);
+  })
+
+  one_asked : IsAskedFor name a b rest.waits waits → AccountsOn 0 [] a b unasked asked_for_name
+  one_asked s u f = (
+    Asked name ∷ [],
+    refl,
+    record {
+      told = ap (λ (v : NetworkValue). v.told) s.net ∙ f.told;
+      made = λ p. ap (λ (v : NetworkValue). count_by p v.made) s.net ∙ f.made p;
+      closed = λ p. ap (λ (v : NetworkValue). count_by p v.closed + count_by p rest.closing) s.net ∙ f.closed p;
+      dealt = let before = f.dealt in omega (arith, before);
+      asked = ap (λ (v : NetworkValue). v.asked) s.net ∙ ap (λ (t : List (List ℕ)). t ++ name ∷ []) f.asked ∙ append_assoc u.before.asked (asked_in u.lookups) (name ∷ [])
+          ∙ ap (λ (t : List (List ℕ)). u.before.asked ++ t) (sym (asked_append u.lookups (Asked name ∷ [])));
+      found = found_append u.lookups (Asked name ∷ []) ∙ append-nil (found_in u.lookups) ∙ f.found;
+      awaited = λ other there.
+          ⊎_elim (λ (its : other ≡ name). subst (λ (n : List ℕ). IsAwaited n (u.lookups ++ Asked name ∷ [])) (sym its) (awaited_now name u.lookups))
+          (λ (was : Contains rest.waits other). awaited_still other name u.lookups (f.awaited other was))
+          ((s.adds.1 other).0 there);
+    },
+  )
+
+  pub asks_accounts : AsksFor name a b rest.waits waits → AccountsOn 0 [] a b unasked asked_for_name
+  asks_accounts asks = ⊎_elim none_asked one_asked asks
 
 -- nothing was done yet
 pub first_accounts : (w : WholeLoop) → StartsLoop w → (a : NetworkValue) → AccountsFor (first_account a) a w
@@ -314,5 +415,7 @@ first_accounts w s a = record {
       let waits : count_by p w.closing ≡ 0 = rw s.none_closing refl in
       omega (arith, none, waits);
   dealt = let none : count_dealt w.side ≡ 0 = rw (s.side.none_there, s.side.none_gone, s.side.none_unserved) refl in sym none;
+  asked = sym (append-nil a.asked);
   found = sym s.none_found;
+  awaited = λ name there. absurd (none_there name (subst (λ (l : List (List ℕ)). Contains l name) s.none_waits there));
 }

@@ -1,14 +1,18 @@
 -- What each step makes of the jobs that are asked for, and of those that ended.
-use Rattle.gateway_loop.proofs.Words.{AreFoundFor, AreOfName, Beside, Contains, Contains-append_left, All-weaker, FoundValue, addresses_value, beside, take, true, ◌≡◌, ◌≢◌, ◌⊎◌, ℕ, zero, suc, ◌+◌, Bool, false, cond, List, [], ◌∷◌, ◌++◌, All, map, Option, None, Some, refl, sym, ap, ◌∙◌, subst, arith, append_assoc, inl, inr, ⊎_elim, count_by, sum_by, option_map, slice_index_or, option_map_or, cases_eq, map-append, All-push, sum_by-append, sum_by-cons, Outcome, JobValue, IsPrefixOf, HandedJob, Slab, Updates, AskingValue, BeginsRequest, EndedValue, IsFair, StreamValue, ended_value, Account, AccountsFor, AccountsOn, Admits, ClosedValue, IsStill, NetworkValue, with_more, LoopValue, Continues, HasTicked, AsksFairly, AsksOn, ContinuesLoop, GivesUpStream, HasEndedSince, KeepsStream, WholeLoop, asked_at, count_asked, AskingState, asked_for, HandsNothing, Onward, Goes, AreFramed, IsFramed, whole_loop, Framing, SocketAddr, prefix-refl, prefix-trans}
+use Rattle.gateway_loop.proofs.Words.{AreFoundFor, AreOfName, Beside, Contains, Contains-append_left, All-weaker, FoundValue, addresses_value, beside, take, true, ◌≡◌, ◌≢◌, ◌⊎◌, ℕ, zero, suc, ◌+◌, Bool, false, cond, List, [], ◌∷◌, ◌++◌, All, map, Option, None, Some, refl, sym, ap, ◌∙◌, subst, arith, append_assoc, inl, inr, ⊎_elim, count_by, sum_by, option_map, slice_index_or, option_map_or, cases_eq, map-append, All-push, sum_by-append, sum_by-cons, Outcome, JobValue, IsPrefixOf, HandedJob, Slab, Updates, AskingValue, BeginsRequest, EndedValue, IsFair, StreamValue, ended_value, Account, AccountsFor, AccountsOn, Admits, ClosedValue, IsStill, NetworkValue, LoopValue, Continues, HasTicked, AsksFairly, AsksOn, ContinuesLoop, GivesUpStream, HasEndedSince, KeepsStream, WholeLoop, asked_at, count_asked, AskingState, asked_for, HandsNothing, Onward, Goes, AreFramed, IsFramed, whole_loop, Framing, SocketAddr, prefix-refl, prefix-trans}
 use Rattle.std.proofs.lemmas.Bool.Decides.{nat_tests}
 use Rattle.std.proofs.lemmas.List.{append-nil}
-use Rattle.std.specs.Prelude.{if◌then◌else◌}
+use Rattle.std.proofs.lemmas.Slice.Eq.{bytes_eq-Decides}
+use Rattle.std.specs.Prelude.{◌&&◌, if◌then◌else◌, not}
+use Rattle.std.specs.Str.{bytes_eq}
+use Rattle.gateway_loop.specs.Loop.{found_asking}
 use Rattle.loop_model.specs.Accounts.{stream_now}
 use Rattle.branch_asking.specs.Asking.{Finds}
 use Rattle.branch_asking.specs.Streams.{Connects, HasStreamsOf}
 use Rattle.gateway_loop.specs.Clients.{IsTold, LetsGo, TakesIn}
 use Rattle.gateway_loop.specs.Closing.{ClosesFrom}
-use Rattle.gateway_loop.proofs.AccountLemmas.{admits_accounts, begin_accounts, closes_accounts, found_accounts, connects_accounts, end_accounts, goes_accounts, put_accounts, still_accounts, told_accounts}
+use Rattle.gateway_loop.specs.Names.{AsksFor, Leaves}
+use Rattle.gateway_loop.proofs.AccountLemmas.{admits_accounts, asks_accounts, begin_accounts, closes_accounts, done_alone, done_then, found_accounts, connects_accounts, end_accounts, goes_accounts, put_accounts, still_accounts, told_accounts}
 use Rattle.gateway_loop.proofs.GrowLemmas as grow
 use Rattle.gateway_loop.proofs.Places.{Put, put_back}
 use Rattle.gateway_loop.proofs.SumLemmas.{sum_map, sum_put}
@@ -108,25 +112,16 @@ continues_then u v w a b = record {
 }
 
 pub moves : {a b : NetworkValue} (v w : WholeLoop) → ContinuesLoop v w → ((u : Account) → AccountsFor u a v → AccountsFor u b w) → w.side.drained ≡ v.side.drained → Goes a b v w
-moves {a} {b} v w c accounts drained = record { on = λ u before. continues_then u v w before c; accounts = accounts; drained = drained }
+moves {a} {b} v w c accounts drained = record { on = λ u before. continues_then u v w before c; accounts = done_alone v w accounts; drained = drained }
 
 pub goes_same : {a : NetworkValue} (v : WholeLoop) → Goes a a v v
-goes_same {a} v = record { on = λ u c. c; accounts = λ u f. f; drained = refl }
+goes_same {a} v = record { on = λ u c. c; accounts = done_alone v v (λ u f. f); drained = refl }
 
 pub goes_then : {a b c : NetworkValue} (u v w : WholeLoop) → Goes a b u v → Goes b c v w → Goes a c u w
-goes_then {a} {b} {c} u v w p q = record { on = λ t before. q.on t (p.on t before); accounts = λ x f. q.accounts x (p.accounts x f); drained = q.drained ∙ p.drained }
+goes_then {a} {b} {c} u v w p q = record { on = λ t before. q.on t (p.on t before); accounts = done_then 0 0 [] [] u v w p.accounts q.accounts; drained = q.drained ∙ p.drained }
 
 pub goes_on : {a b : NetworkValue} (v w : WholeLoop) → Goes a b v w → ContinuesLoop v w
 goes_on {a} {b} v w p = p.on v (continues_same v)
-
-more_none : (u : Account) → with_more 0 [] u ≡ u
-more_none u =
-    let none : u.dealt + 0 ≡ u.dealt = omega arith in
-    ap (λ (d : ℕ). record { before = u.before; dealt = d; found = u.found ++ [] }) none ∙ ap (λ (f : List FoundValue). record { before = u.before; dealt = u.dealt; found = f }) (append-nil u.found)
-
--- no stream was dealt
-pub accounts_on : {a b : NetworkValue} (v w : WholeLoop) → Goes a b v w → AccountsOn 0 [] a b v w
-accounts_on {a} {b} v w p = λ u f. subst (λ (x : Account). AccountsFor x b w) (sym (more_none u)) (p.accounts u f)
 
 -- what was found stays so
 pub stays_found : {a b : NetworkValue} (v w : WholeLoop) (one : FoundValue) → Goes a b v w → Contains v.looked_up one → Contains w.looked_up one
@@ -138,29 +133,34 @@ pub ruleset going = (goes_same, goes_then)
 
 -- streams were dealt before or behind
 pub goes_admits : {a b c : NetworkValue} (dealt : ℕ) (found : List FoundValue) (u v w : WholeLoop) → Goes a b u v → Admits dealt found b c v w → Admits dealt found a c u w
-goes_admits {a} {b} {c} dealt found u v w p q = record { on = λ t before. q.on t (p.on t before); accounts = λ x f. q.accounts x (p.accounts x f); drained = q.drained ∙ p.drained }
+goes_admits {a} {b} {c} dealt found u v w p q =
+    let none : 0 + dealt ≡ dealt = omega arith in record {
+      on = λ t before. q.on t (p.on t before);
+      accounts = subst (λ (n : ℕ). AccountsOn n found a c u w) none (done_then 0 dealt [] found u v w p.accounts q.accounts);
+      drained = q.drained ∙ p.drained;
+    }
 
 pub admits_goes : {a b c : NetworkValue} (dealt : ℕ) (found : List FoundValue) (u v w : WholeLoop) → Admits dealt found a b u v → Goes b c v w → Admits dealt found a c u w
-admits_goes {a} {b} {c} dealt found u v w p q = record { on = λ t before. q.on t (p.on t before); accounts = λ x f. q.accounts (with_more dealt found x) (p.accounts x f); drained = q.drained ∙ p.drained }
+admits_goes {a} {b} {c} dealt found u v w p q =
+    let none : dealt + 0 ≡ dealt = omega arith in record {
+      on = λ t before. q.on t (p.on t before);
+      accounts = subst (λ (n : ℕ). AccountsOn n found a c u w) none
+          (subst (λ (l : List FoundValue). AccountsOn (dealt + 0) l a c u w) (append-nil found) (done_then dealt 0 found [] u v w p.accounts q.accounts));
+      drained = q.drained ∙ p.drained;
+    }
 
 pub admits_on : {a b : NetworkValue} (dealt : ℕ) (found : List FoundValue) (v w : WholeLoop) → Admits dealt found a b v w → ContinuesLoop v w
 admits_on {a} {b} dealt found v w p = p.on v (continues_same v)
 
 pub admits_none : {a : NetworkValue} (v : WholeLoop) → Admits 0 [] a a v v
-admits_none {a} v = record { on = λ u c. c; accounts = λ u f. subst (λ (x : Account). AccountsFor x a v) (sym (more_none u)) f; drained = refl }
+admits_none {a} v = record { on = λ u c. c; accounts = done_alone v v (λ u f. f); drained = refl }
 
 pub admits_more : {a b c : NetworkValue} (n m : ℕ) (first last : List FoundValue) (u v w : WholeLoop) → Admits n first a b u v → Admits m last b c v w → Admits (n + m) (first ++ last) a c u w
 admits_more {a} {b} {c} n m first last u v w p q = record {
   on = λ t before. q.on t (p.on t before);
-  accounts = λ x f. subst (λ (y : Account). AccountsFor y c w) (more_then x) (q.accounts (with_more n first x) (p.accounts x f));
+  accounts = done_then n m first last u v w p.accounts q.accounts;
   drained = q.drained ∙ p.drained;
 }
-  where
-    more_then : (x : Account) → with_more m last (with_more n first x) ≡ with_more (n + m) (first ++ last) x
-    more_then x =
-        let dealt : (x.dealt + n) + m ≡ x.dealt + (n + m) = omega arith in
-        ap (λ (d : ℕ). record { before = x.before; dealt = d; found = (x.found ++ first) ++ last }) dealt
-        ∙ ap (λ (f : List FoundValue). record { before = x.before; dealt = x.dealt + (n + m); found = f }) (append_assoc x.found first last)
 
 abbrev pub show_slot : Option AskingState → Option AskingValue
 show_slot o = option_map asked_for o
@@ -209,23 +209,40 @@ module _ (framing : Framing) (asking : List (Option AskingState)) (ended : List 
 
   -- .. it was told to drain
   pub drains_so : Continues l m → IsStill l m → (ContinuesLoop before after) × ((a : NetworkValue) → AccountsOn 0 [] a a before after)
-  drains_so c s = (continues_side framing asking ended rest l m c, λ a u f. subst (λ (x : Account). AccountsFor x a after) (sym (more_none u)) (still_accounts framing asking ended rest l m a s u f))
+  drains_so c s = (continues_side framing asking ended rest l m c, λ a. done_alone before after (still_accounts framing asking ended rest l m a s))
 
 -- streams that waited were closed
 pub goes_closes : {a b : NetworkValue} (framing : Framing) (l : LoopValue) (asking : List (Option AskingState)) (ended : List (AskingState × Option Outcome)) (rest : Beside) (closing : List ClosedValue) → ClosesFrom a b rest.closing closing
-    → Goes a b (whole_loop framing l asking ended rest) (whole_loop framing l asking ended (beside closing rest.looked_up))
+    → Goes a b (whole_loop framing l asking ended rest) (whole_loop framing l asking ended (beside closing rest.looked_up rest.waits))
 goes_closes {a} {b} framing l asking ended rest closing c =
-    moves (whole_loop framing l asking ended rest) (whole_loop framing l asking ended (beside closing rest.looked_up))
+    moves (whole_loop framing l asking ended rest) (whole_loop framing l asking ended (beside closing rest.looked_up rest.waits))
     record { framing = refl; side = grow.continues_same l; asking = λ i x is. (x, inl is, asks_same x); ended = prefix-refl (whole_loop framing l asking ended rest).ended; looked_up = prefix-refl rest.looked_up }
     (closes_accounts framing l asking ended rest closing a b c) refl
 
--- a name was looked up
-pub admits_found : (framing : Framing) (l : LoopValue) (asking : List (Option AskingState)) (ended : List (AskingState × Option Outcome)) (rest : Beside) (later : List FoundValue) (one : FoundValue) → later ≡ rest.looked_up ++ one ∷ []
-    → (a : NetworkValue) → Admits 0 (one ∷ []) a a (whole_loop framing l asking ended rest) (whole_loop framing l asking ended (beside rest.closing later))
-admits_found framing l asking ended rest later one is a = record {
-  on = λ u c. continues_then u (whole_loop framing l asking ended rest) (whole_loop framing l asking ended (beside rest.closing later)) c
-      record { framing = refl; side = grow.continues_same l; asking = λ i x at. (x, inl at, asks_same x); ended = prefix-refl (whole_loop framing l asking ended rest).ended; looked_up = (one ∷ [], is) };
-  accounts = λ u f. found_accounts framing l asking ended rest later one a is u f;
+-- what the exchanges are beside is another
+continues_beside : (framing : Framing) (l : LoopValue) (asking : List (Option AskingState)) (ended : List (AskingState × Option Outcome)) (rest later : Beside) → IsPrefixOf rest.looked_up later.looked_up
+    → ContinuesLoop (whole_loop framing l asking ended rest) (whole_loop framing l asking ended later)
+continues_beside framing l asking ended rest later more =
+    record { framing = refl; side = grow.continues_same l; asking = λ i x at. (x, inl at, asks_same x); ended = prefix-refl (whole_loop framing l asking ended rest).ended; looked_up = more }
+
+-- a name was looked up, for which nobody waits any more
+pub admits_found : (framing : Framing) (l : LoopValue) (asking : List (Option AskingState)) (ended : List (AskingState × Option Outcome)) (rest : Beside) (later : List FoundValue) (waits : List (List ℕ)) (one : FoundValue)
+    → later ≡ rest.looked_up ++ one ∷ [] → Leaves one.name rest.waits waits
+    → (a : NetworkValue) → Admits 0 (one ∷ []) a a (whole_loop framing l asking ended rest) (whole_loop framing l asking ended (beside rest.closing later waits))
+admits_found framing l asking ended rest later waits one is left a = record {
+  on = λ u c. continues_then u (whole_loop framing l asking ended rest) (whole_loop framing l asking ended (beside rest.closing later waits)) c
+      (continues_beside framing l asking ended rest (beside rest.closing later waits) (one ∷ [], is));
+  accounts = found_accounts framing l asking ended rest later waits one a is left;
+  drained = refl;
+}
+
+-- a name was asked for, or none
+pub goes_asks : {a b : NetworkValue} (framing : Framing) (l : LoopValue) (asking : List (Option AskingState)) (ended : List (AskingState × Option Outcome)) (rest : Beside) (waits : List (List ℕ)) (name : List ℕ) → AsksFor name a b rest.waits waits
+    → Goes a b (whole_loop framing l asking ended rest) (whole_loop framing l asking ended (beside rest.closing rest.looked_up waits))
+goes_asks {a} {b} framing l asking ended rest waits name asks = record {
+  on = λ u c. continues_then u (whole_loop framing l asking ended rest) (whole_loop framing l asking ended (beside rest.closing rest.looked_up waits)) c
+      (continues_beside framing l asking ended rest (beside rest.closing rest.looked_up waits) (prefix-refl rest.looked_up));
+  accounts = asks_accounts framing l asking ended rest waits name a b asks;
   drained = refl;
 }
 
@@ -291,11 +308,11 @@ module _ (old new : List (Option AskingState)) (i : ℕ) where
   pub goes_ended : {a b : NetworkValue} (framing : Framing) (v w : LoopValue) (ended ended' : List (AskingState × Option Outcome)) (rest : Beside) (closing' streams : List ClosedValue) (x y : AskingState) (end : Option Outcome) → Onward v w → IsStill v w
       → slice_index_or old i None ≡ Some x → Put old new i None → ended' ≡ ended ++ (y, end) ∷ [] → AsksOn (asked_for x) (asked_for y) → HasStreamsOf (asked_for x) (asked_for y)
       → streams ≡ stream_now (asked_for y) → ClosesFrom a b (streams ++ rest.closing) closing'
-      → Goes a b (whole_loop framing v old ended rest) (whole_loop framing w new ended' (beside closing' rest.looked_up))
+      → Goes a b (whole_loop framing v old ended rest) (whole_loop framing w new ended' (beside closing' rest.looked_up rest.waits))
   goes_ended {a} {b} framing v w ended ended' rest closing' streams x y end o still was put is_now on same stream closes =
       let show : AskingState × Option Outcome → EndedValue = λ (d : AskingState × Option Outcome). ended_value (asked_for d.0) d.1 in
       let more : map show ended' ≡ map show ended ++ show (y, end) ∷ [] = ap (map show) is_now ∙ map-append show ended ((y, end) ∷ []) in
-      moves (whole_loop framing v old ended rest) (whole_loop framing w new ended' (beside closing' rest.looked_up)) record {
+      moves (whole_loop framing v old ended rest) (whole_loop framing w new ended' (beside closing' rest.looked_up rest.waits)) record {
         framing = refl;
         side = o.on v (grow.continues_same v);
         asking = λ j z is.
@@ -412,13 +429,13 @@ framed_by framing y framed untouched x is = subst (λ (t : AskingState). IsFrame
 
 -- what holds of a loop with these clients, jobs and ends, and what was found, whatever streams wait to be closed
 abbrev pub Keeps : Framing → List FoundValue → LoopValue → List (Option AskingState) → List (AskingState × Option Outcome) → Type 0
-Keeps framing looked v asking ended = AsksFairly (whole_loop framing v asking ended (beside [] looked)) × AreFramed framing asking
+Keeps framing looked v asking ended = AsksFairly (whole_loop framing v asking ended (beside [] looked [])) × AreFramed framing asking
 
 -- the clients' side went on with none of them
 pub keeps_clients : (framing : Framing) (looked : List FoundValue) (v w : LoopValue) (asking : List (Option AskingState)) (ended : List (AskingState × Option Outcome)) → HandsNothing v w
     → Keeps framing looked v asking ended → Keeps framing looked w asking ended
 keeps_clients framing looked v w asking ended hands k =
-    (keeps_asking (whole_loop framing v asking ended (beside [] looked)) (whole_loop framing w asking ended (beside [] looked)) refl hands refl refl refl k.0, k.1)
+    (keeps_asking (whole_loop framing v asking ended (beside [] looked [])) (whole_loop framing w asking ended (beside [] looked [])) refl hands refl refl refl k.0, k.1)
 
 -- one of them went on with its job, and what was found for it is of its name
 pub keeps_own : (framing : Framing) (looked : List FoundValue) (v : LoopValue) (old new : List (Option AskingState)) (ended : List (AskingState × Option Outcome)) (i : ℕ) (x y : AskingState)
@@ -435,7 +452,7 @@ keeps_own framing looked v old new ended i x y was job framed put begun untouche
         let count = count_put p old new i (Some x) (Some y) was put in
         let same : one_asked p (Some y) ≡ one_asked p (Some x) = ap (λ (j : HandedJob). cond (p j.job) 1 0) job in
         let is : sum_by (one_asked p) new ≡ sum_by (one_asked p) old = omega (arith, count, same) in
-        k.0.jobs p ∙ ap (λ n. count_by (λ (e : EndedValue). p e.asking.job) (whole_loop framing v old ended (beside [] looked)).ended + n) (shown_count p old ∙ sym is ∙ sym (shown_count p new));
+        k.0.jobs p ∙ ap (λ n. count_by (λ (e : EndedValue). p e.asking.job) (whole_loop framing v old ended (beside [] looked [])).ended + n) (shown_count p old ∙ sym is ∙ sym (shown_count p new));
   },
   framed_put framing old new i (Some y) put (framed_by framing y (framed ∙ (k.1 i x was).0) untouched) k.1,
 )
@@ -468,13 +485,28 @@ module _ (framing : Framing) (looked : List FoundValue) (v : LoopValue) (ended :
       → y.job ≡ x.job → y.framing ≡ x.framing → y.addresses.found ≡ x.addresses.found → BeginsRequest (asked_for y) → HasUntouched y → Keeps framing looked v s.slots ended → Keeps framing looked v u.slots ended
   keeps_back out next is back was job framed found begun untouched a = keeps_put framing looked v s.slots u.slots ended i x y was job framed found (put_back s t u i key y out next is back) begun untouched a
 
-  -- .. and more was found for it
-  pub finds_back : Updates s t i None → t.vacant_key ≡ i → key ≡ t.vacant_key → Updates t u key (Some y) → slice_index_or s.slots i None ≡ Some x
-      → y.job ≡ x.job → y.framing ≡ x.framing → (one : FoundValue) (more : List SocketAddr) → (y ≡ x) ⊎ (x.job.job.address ≡ one.name) → Finds one.name more x y → Contains looked one → more ≡ take 32 one.addresses
-      → BeginsRequest (asked_for y) → HasUntouched y → Keeps framing looked v s.slots ended → Keeps framing looked v u.slots ended
-  finds_back out next is back was job framed one more own finds there first begun untouched a =
-      keeps_own framing looked v s.slots u.slots ended i x y was job framed (put_back s t u i key y out next is back) begun untouched
-      (named_found looked x y one more own finds there first (named_at framing looked v s.slots ended i x was a)) a
+-- .. and more was found for one
+pub finds_put : (framing : Framing) (looked : List FoundValue) (v : LoopValue) (old new : List (Option AskingState)) (ended : List (AskingState × Option Outcome)) (i : ℕ) (x y : AskingState)
+    → slice_index_or old i None ≡ Some x → y.job ≡ x.job → y.framing ≡ x.framing → (one : FoundValue) (more : List SocketAddr) → (y ≡ x) ⊎ (x.job.job.address ≡ one.name) → Finds one.name more x y → Contains looked one → more ≡ take 32 one.addresses
+    → Put old new i (Some y) → BeginsRequest (asked_for y) → HasUntouched y → Keeps framing looked v old ended → Keeps framing looked v new ended
+finds_put framing looked v old new ended i x y was job framed one more own finds there first put begun untouched a =
+    keeps_own framing looked v old new ended i x y was job framed put begun untouched (named_found looked x y one more own finds there first (named_at framing looked v old ended i x was a)) a
+
+-- what is seen of it then
+pub found_asked : (name : List ℕ) (more : List SocketAddr) (x y : AskingState) → Finds name more x y → asked_for y ≡ found_asking name more (asked_for x)
+found_asked name more x y finds = by_it (bytes_eq name x.job.job.address) refl
+  where
+    known_by : (b : Bool) → asked_for (record x { addresses = if b then x.addresses else addresses_value x.addresses.first more true more })
+        ≡ (if true && not b then record (asked_for x) { known = true; found = more } else asked_for x)
+    known_by true = refl
+    known_by false = refl
+
+    off_on : {A : Type 0} → false ≡ true → A
+    off_on e = absurd (let f : ⊥ = cc in f)
+
+    by_it : (b : Bool) → bytes_eq name x.job.job.address ≡ b → asked_for y ≡ (if b && not x.addresses.known then record (asked_for x) { known = true; found = more } else asked_for x)
+    by_it true is = ap asked_for (finds.0 (sym ((bytes_eq-Decides name x.job.job.address).0 is))) ∙ known_by x.addresses.known
+    by_it false is = ap asked_for (finds.1 (λ its. off_on (sym is ∙ (bytes_eq-Decides name x.job.job.address).1 (sym its))))
 
 -- where no job waits, nothing was taken
 pub takes_none : (framing : Framing) (looked : List FoundValue) (v w : LoopValue) (old new : List (Option AskingState)) (ended : List (AskingState × Option Outcome))
@@ -557,12 +589,12 @@ ends_one framing looked v w old new ended ended' i x y o j results same was job 
 pub starts_fair : (framing : Framing) (looked : List FoundValue) (v : LoopValue) → v.results ≡ [] → v.handed ≡ [] → Keeps framing looked v [] []
 starts_fair framing looked v no_results none_handed = (fair, λ i x is. absurd (none_state x is))
   where
-    fair : AsksFairly (whole_loop framing v [] [] (beside [] looked))
+    fair : AsksFairly (whole_loop framing v [] [] (beside [] looked []))
     fair = search arith
 
 -- .. and whichever those are
 pub fair_closing : (framing : Framing) (v : LoopValue) (asking : List (Option AskingState)) (ended : List (AskingState × Option Outcome)) (rest : Beside)
-    → AsksFairly (whole_loop framing v asking ended (beside [] rest.looked_up)) → AsksFairly (whole_loop framing v asking ended rest)
+    → AsksFairly (whole_loop framing v asking ended (beside [] rest.looked_up [])) → AsksFairly (whole_loop framing v asking ended rest)
 fair_closing framing v asking ended rest a = record { results = a.results; fair = a.fair; begun = a.begun; found = a.found; found_ended = a.found_ended; jobs = a.jobs }
 
 -- what was found before stays so where more is
@@ -575,7 +607,7 @@ fair_found framing v asking ended looked later one is k = (
     begun = k.0.begun;
     found = λ i x at. more_found x.job.address x.found (k.0.found i x at);
     found_ended = All-weaker (λ (e : EndedValue). AreOfName e.asking.job.address e.asking.found looked) (λ (e : EndedValue). AreOfName e.asking.job.address e.asking.found later)
-        (λ (e : EndedValue) named. more_found e.asking.job.address e.asking.found named) (whole_loop framing v asking ended (beside [] looked)).ended k.0.found_ended;
+        (λ (e : EndedValue) named. more_found e.asking.job.address e.asking.found named) (whole_loop framing v asking ended (beside [] looked [])).ended k.0.found_ended;
     jobs = k.0.jobs;
   },
   k.1,

@@ -5,12 +5,13 @@ use Rattle.gateway_loop.specs.Closing.{ClosesFrom}
 use Rattle.gateway_loop.proofs.AccountLemmas.{count_append}
 
 pub closes_none : (a : NetworkValue) (waiting : List ClosedValue) → ClosesFrom a a waiting waiting
-closes_none a waiting = record { told = refl; made = refl; each = λ p. refl }
+closes_none a waiting = record { told = refl; made = refl; asked = refl; each = λ p. refl }
 
 pub closes_then : (a b c : NetworkValue) (u v w : List ClosedValue) → ClosesFrom a b u v → ClosesFrom b c v w → ClosesFrom a c u w
 closes_then a b c u v w p q = record {
   told = q.told ∙ p.told;
   made = q.made ∙ p.made;
+  asked = q.asked ∙ p.asked;
   each = λ f. let first = p.each f in let second = q.each f in omega (arith, first, second);
 }
 
@@ -29,6 +30,7 @@ pub closes_first : (a b : NetworkValue) (x : ClosedValue) (waiting rest : List C
 closes_first a b x waiting rest is net = record {
   told = ap (λ (v : NetworkValue). v.told) net;
   made = ap (λ (v : NetworkValue). v.made) net;
+  asked = ap (λ (v : NetworkValue). v.asked) net;
   each = λ p.
       let now = ap (λ (v : NetworkValue). count_by p v.closed) net ∙ count_append p a.closed (x ∷ []) in
       let before = ap (count_by p) is ∙ count_append p (x ∷ []) rest in
@@ -41,6 +43,7 @@ pub closes_one : (a b : NetworkValue) (x : ClosedValue) (waiting rest : List Clo
 closes_one a b x waiting rest index lt its is net = record {
   told = ap (λ (v : NetworkValue). v.told) net;
   made = ap (λ (v : NetworkValue). v.made) net;
+  asked = ap (λ (v : NetworkValue). v.asked) net;
   each = λ p.
       let now = ap (λ (v : NetworkValue). count_by p v.closed) net ∙ count_append p a.closed (x ∷ []) in
       let before = count_remove p waiting index x lt its in
@@ -53,6 +56,7 @@ pub closes_later : (a : NetworkValue) (x : ClosedValue) (waiting later : List Cl
 closes_later a x waiting later is = record {
   told = refl;
   made = refl;
+  asked = refl;
   each = λ p.
       let now = ap (count_by p) is ∙ count_append p waiting (x ∷ []) in
       let before = count_append p (x ∷ []) waiting in
@@ -64,6 +68,7 @@ pub closes_beside : (a b : NetworkValue) (x : ClosedValue) (v w : List ClosedVal
 closes_beside a b x v w c = record {
   told = c.told;
   made = c.made;
+  asked = c.asked;
   each = λ p.
       let its = c.each p in
       let before = count_append p (x ∷ []) v in

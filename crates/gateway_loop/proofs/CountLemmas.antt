@@ -1,6 +1,5 @@
 -- How many clients have a connection.
 use Rattle.gateway_loop.proofs.Words.{◌≡◌, ◌≢◌, ℕ, suc, ◌+◌, Bool, false, cond, List, [], ◌∷◌, ◌++◌, Option, None, Some, refl, ap, ◌∙◌, arith, ◌==◌, count_by, option_map_or, sum_by-append, sum_by-cons, ClientValue, LoopValue, at, count_of, entries_from, is_some, map, one_below, option_map, slice_index_or, true, zero}
-use Rattle.loop_model.specs.Standing.{count_clients}
 use Rattle.gateway_loop.proofs.Places.{Put}
 use Rattle.std.proofs.lemmas.Bool.Decides.{nat_tests}
 use Rattle.gateway_loop.proofs.SumLemmas.{sum_put}

@@ -8,6 +8,7 @@ pub mod CountLemmas
 pub mod LoopLemmas
 pub mod HistoryLemmas
 pub mod GrowLemmas
+pub mod NameLemmas
 pub mod AskLemmas
 pub mod RestLemmas
 pub mod TellLemmas

@@ -1,5 +1,5 @@
 -- What it tells that a test answers true.
-use Rattle.gateway_loop.proofs.Words.{◌≡◌, ℕ, zero, suc, ◌+◌, ◌≤◌, Bool, true, false, ◌||◌, option_map, List, [], ◌∷◌, ◌++◌, map, Option, None, Some, refl, sym, ap, ◌∙◌, subst, arith, inl, inr, length, append-nil, count_by, sum_by-cons, is_some, not, slice_index_or, ◌==◌, entries_from, ClientValue, AskingValue, AskingState, GatewayValue, WholeLoop, asked_at, asked_for, shown, IsPrefixOf, request_of}
+use Rattle.gateway_loop.proofs.Words.{◌≡◌, ℕ, zero, suc, ◌+◌, ◌≤◌, Bool, true, false, ◌||◌, option_map, List, [], ◌∷◌, ◌++◌, map, Option, None, Some, refl, sym, ap, ◌∙◌, subst, arith, inl, inr, length, append-nil, count_by, sum_by-cons, is_some, not, slice_index_or, ◌==◌, entries_from, ClientValue, AskingValue, AskingState, GatewayValue, WholeLoop, asked_at, asked_for, shown, IsPrefixOf, request_of, Contains, SocketAddr}
 use Rattle.std.proofs.lemmas.Bool.{eqb-true, leb-true, ltb-false}
 use Rattle.std.proofs.lemmas.Bool.Decides.{nat_tests}
 use Rattle.std.proofs.lemmas.List.{length-append, nil_from_length}
@@ -10,11 +10,13 @@ use Rattle.branch_asking.specs.Rests.{is_sent, rests_watched}
 use Rattle.gateway_model.specs.Known.{Shown}
 use Rattle.loop_model.specs.Rest.{AtMost, IsWatched, IsWritten, RestsAsking, RestsClient}
 use Rattle.gateway_loop.proofs.AskLemmas.{HasUntouched, shown_at}
+use Rattle.gateway_loop.proofs.NameLemmas.{among_there}
+use Rattle.gateway_loop.specs.Names.{is_among}
 use Rattle.gateway_loop.specs.NextTurns.{due_by}
-use Rattle.gateway_loop.specs.Rests.{WaitsForPlace, is_at_most, is_clients, is_exchanges, is_watched, is_watched_as, is_written, rests_asking, rests_client, waits_client}
+use Rattle.gateway_loop.specs.Rests.{WaitsForPlace, is_at_most, is_clients, is_exchanges, is_named, is_watched, is_watched_as, is_written, rests_asking, rests_client, waits_client}
 use Rattle.gateway_loop.specs.declared.next_turn.NextTurn.TheVariants.{AtOnce, At, Never}
 
-both_true : (a b : Bool) → (a && b) ≡ true → (a ≡ true) × (b ≡ true)
+pub both_true : (a b : Bool) → (a && b) ≡ true → (a ≡ true) × (b ≡ true)
 both_true true b h = (refl, h)
 both_true false b h = search arith
 
@@ -237,6 +239,29 @@ all_asking s until slots begins untouched rest i x is = by_slot (slice_index_or 
         let same = some_is (asked_for y) (sym (shown_at slots i ∙ ap (λ (p : Option AskingState). option_map asked_for p) at_it) ∙ is) in
         subst (λ (z : AskingValue). RestsAsking s until i z) same
         (asking_rests s until i y (subst (λ (z : AskingValue). IsPrefixOf z.got (request_of z.job)) (sym same) (begins i x is)) (untouched i y at_it) (rest i y at_it))
+
+-- each of these that has no stream waits for its name
+pub all_named : (waits : List (List ℕ)) (slots : List (Option AskingState)) → ((i : ℕ) (x : AskingState) → slice_index_or slots i None ≡ Some x → is_named waits x ≡ true)
+    → (i : ℕ) (x : AskingValue) → asked_at i (map (λ (o : Option AskingState). option_map asked_for o) slots) ≡ Some x → x.peer ≡ None → Contains waits x.job.address
+all_named waits slots named i x is = by_slot (slice_index_or slots i None) refl
+  where
+    nobody : None ≡ Some x → ⊥
+    nobody e = cc
+
+    some_is : (y : AskingValue) → Some y ≡ Some x → y ≡ x
+    some_is y e = cc
+
+    without : (o : Option SocketAddr) (b : Bool) → (is_some o || b) ≡ true → o ≡ None → b ≡ true
+    without o b h none = sym (ap (λ (p : Option SocketAddr). is_some p || b) none) ∙ h
+
+    by_state : (y : AskingState) → is_named waits y ≡ true → (asked_for y).peer ≡ None → Contains waits (asked_for y).job.address
+    by_state y h none = among_there y.job.job.address waits (without y.attempt.peer (is_among y.job.job.address waits) h none)
+
+    by_slot : (o : Option AskingState) → slice_index_or slots i None ≡ o → x.peer ≡ None → Contains waits x.job.address
+    by_slot None at_it none = absurd (nobody (sym (shown_at slots i ∙ ap (λ (p : Option AskingState). option_map asked_for p) at_it) ∙ is))
+    by_slot (Some y) at_it none =
+        let same = some_is (asked_for y) (sym (shown_at slots i ∙ ap (λ (p : Option AskingState). option_map asked_for p) at_it) ∙ is) in
+        subst (λ (z : AskingValue). z.peer ≡ None → Contains waits z.job.address) same (by_state y (named i y at_it)) none
 
 -- the next turn is due at that moment, or not before something comes
 pub due_at : (until : Option ℕ) (now moment : ℕ) → due_by until now ≡ At moment → until ≡ Some moment

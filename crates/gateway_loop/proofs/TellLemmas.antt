@@ -1,5 +1,5 @@
 -- What reports change.
-use Rattle.gateway_loop.proofs.Words.{◌≡◌, ℕ, zero, suc, Bool, true, false, List, [], ◌∷◌, ◌++◌, map, Option, None, Some, refl, sym, ap, ◌∙◌, option_map, slice_index_or, AskingState, AskingValue, HasTicked, WholeLoop, Ready, asked_for, asked_at, changed_at, tell, tell_all, tell_in, told_asking, ContinuesLoop, ClosedValue, HasEndedSince, AsksOn, ◌⊎◌, ⊎_elim, inl, inr}
+use Rattle.gateway_loop.proofs.Words.{◌≡◌, ℕ, zero, suc, Bool, true, false, List, [], ◌∷◌, ◌++◌, map, Option, None, Some, refl, sym, ap, ◌∙◌, option_map, slice_index_or, AskingState, AskingValue, HasTicked, WholeLoop, Ready, asked_for, asked_at, changed_at, tell, tell_all, tell_in, ContinuesLoop, ClosedValue, HasEndedSince, AsksOn, ◌⊎◌, ⊎_elim, inl, inr}
 use Rattle.std.specs.Prelude.{◌%◌, ◌==◌, slice_set}
 use Rattle.gateway_loop.proofs.AskLemmas.{shown_at}
 use Rattle.gateway_loop.proofs.Places.{changed_none}
@@ -56,17 +56,17 @@ abbrev shown_slots : List (Option AskingState) → List (Option AskingValue)
 shown_slots slots = map (λ (o : Option AskingState). option_map asked_for o) slots
 
 -- what is seen of the jobs changes as they do
-pub asking_changed : (r : Ready) (slots : List (Option AskingState)) (i : ℕ) (x y : AskingState) → slice_index_or slots i None ≡ Some x → asked_for y ≡ told_asking r (asked_for x)
-    → shown_slots (slice_set slots i (Some y)) ≡ changed_at (told_asking r) i (shown_slots slots)
-asking_changed r [] i x y is same = absurd (nobody is)
+pub asking_changed : (f : AskingValue → AskingValue) (slots : List (Option AskingState)) (i : ℕ) (x y : AskingState) → slice_index_or slots i None ≡ Some x → asked_for y ≡ f (asked_for x)
+    → shown_slots (slice_set slots i (Some y)) ≡ changed_at f i (shown_slots slots)
+asking_changed f [] i x y is same = absurd (nobody is)
   where
     nobody : None ≡ Some x → ⊥
     nobody e = cc
-asking_changed r (o ∷ rest) zero x y is same =
+asking_changed f (o ∷ rest) zero x y is same =
     ap (λ (p : Option AskingValue). p ∷ shown_slots rest)
-    (ap (λ (v : AskingValue). Some v) same ∙ ap (λ (q : Option AskingState). option_map (told_asking r) (option_map asked_for q)) (sym is))
-asking_changed r (o ∷ rest) (suc i) x y is same = ap (λ (l : List (Option AskingValue)). option_map asked_for o ∷ l) (asking_changed r rest i x y is same)
+    (ap (λ (v : AskingValue). Some v) same ∙ ap (λ (q : Option AskingState). option_map f (option_map asked_for q)) (sym is))
+asking_changed f (o ∷ rest) (suc i) x y is same = ap (λ (l : List (Option AskingValue)). option_map asked_for o ∷ l) (asking_changed f rest i x y is same)
 
-pub asking_same : (r : Ready) (slots : List (Option AskingState)) (i : ℕ) → slice_index_or slots i None ≡ None → shown_slots slots ≡ changed_at (told_asking r) i (shown_slots slots)
-asking_same r slots i is =
-    sym (changed_none (told_asking r) (shown_slots slots) i (shown_at slots i ∙ ap (λ (o : Option AskingState). option_map asked_for o) is))
+pub asking_same : (f : AskingValue → AskingValue) (slots : List (Option AskingState)) (i : ℕ) → slice_index_or slots i None ≡ None → shown_slots slots ≡ changed_at f i (shown_slots slots)
+asking_same f slots i is =
+    sym (changed_none f (shown_slots slots) i (shown_at slots i ∙ ap (λ (o : Option AskingState). option_map asked_for o) is))

@@ -7,6 +7,7 @@ use Rattle.loop_model.specs.Streams.{ClosedValue}
 pub record ClosesFrom (a b : NetworkValue) (before after : List ClosedValue) : Type 0 where
   pub told : b.told ≡ a.told
   pub made : b.made ≡ a.made
+  pub asked : b.asked ≡ a.asked
   pub each : (p : ClosedValue → Bool) → count_by p b.closed + count_by p after ≡ count_by p a.closed + count_by p before
 
 abbrev pub IsNone : {E : Type 0} → Result (List ClosedValue) E → Type 0

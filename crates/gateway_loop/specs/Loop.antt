@@ -1,9 +1,11 @@
 -- A loop: its clients, and the jobs that are asked for.
-use Rattle.std.specs.Prelude.{◌≡◌, ℕ, false, List, [], count_by, is_some, map, slice_index_or, Option, None, Some, option_map}
+use Rattle.std.specs.Prelude.{◌≡◌, ◌&&◌, not, if◌then◌else◌, ℕ, true, false, List, [], map, slice_index_or, Option, None, Some, option_map}
+use Rattle.std.specs.Str.{bytes_eq}
+use Rattle.std.specs.declared.net.socket_addr.SocketAddr.{SocketAddr}
 use Rattle.connect_codec.specs.declared.answer.Outcome.{Outcome}
 use Rattle.http_pieces.specs.declared.framing.Framing.{Framing}
-use Rattle.loop_model.specs.Accounts.{Account, AccountsFor, AccountsOn, NetworkValue}
-use Rattle.loop_model.specs.Asking.{ended_value}
+use Rattle.loop_model.specs.Accounts.{AccountsOn, NetworkValue}
+use Rattle.loop_model.specs.Asking.{AskingValue, ended_value}
 use Rattle.loop_model.specs.Streams.{ClosedValue}
 use Rattle.loop_model.specs.Explained.{LoopValue}
 use Rattle.loop_model.specs.Found.{FoundValue}
@@ -11,13 +13,14 @@ use Rattle.loop_model.specs.Whole.{ContinuesLoop, WholeLoop}
 use Rattle.branch_asking.specs.Asking.{AskingState, asked_for}
 use Rattle.gateway_loop.specs.Clients.{Starts}
 
--- the streams that wait for their backends' ends, and what was found for names
+-- the streams that wait for their backends' ends, what was found for names, and the names that are waited for
 pub record Beside : Type 0 where
   pub closing : List ClosedValue
   pub looked_up : List FoundValue
+  pub waits : List (List ℕ)
 
-abbrev pub beside : List ClosedValue → List FoundValue → Beside
-beside closing looked_up = record { closing = closing; looked_up = looked_up }
+abbrev pub beside : List ClosedValue → List FoundValue → List (List ℕ) → Beside
+beside closing looked_up waits = record { closing = closing; looked_up = looked_up; waits = waits }
 
 abbrev pub whole_loop : Framing → LoopValue → List (Option AskingState) → List (AskingState × Option Outcome) → Beside → WholeLoop
 whole_loop framing side asking ended beside = record {
@@ -27,6 +30,7 @@ whole_loop framing side asking ended beside = record {
   ended = map (λ (e : AskingState × Option Outcome). ended_value (asked_for e.0) e.1) ended;
   closing = beside.closing;
   looked_up = beside.looked_up;
+  waits = beside.waits;
 }
 
 -- the reply to it may be framed so, and nothing was written to a stream that has not taken a byte
@@ -44,11 +48,17 @@ pub record StartsLoop (w : WholeLoop) : Type 0 where
   pub none_ended : w.ended ≡ []
   pub none_closing : w.closing ≡ []
   pub none_found : w.looked_up ≡ []
+  pub none_waits : w.waits ≡ []
+
+-- these addresses were found for the name, and are its own if that is the address of its job, and none were known
+abbrev pub found_asking : List ℕ → List SocketAddr → AskingValue → AskingValue
+found_asking name more x =
+    if bytes_eq name x.job.address && not x.known then record x { known = true; found = more } else x
 
 -- What the one continues the other does too; what the network did between is accounted for; and it is told to drain if it was.
 pub record Goes (a b : NetworkValue) (v w : WholeLoop) : Type 0 where
   pub on : (u : WholeLoop) → ContinuesLoop u v → ContinuesLoop u w
-  pub accounts : (u : Account) → AccountsFor u a v → AccountsFor u b w
+  pub accounts : AccountsOn 0 [] a b v w
   pub drained : w.side.drained ≡ v.side.drained
 
 -- .. where the network did nothing
@@ -60,9 +70,3 @@ pub record Admits (dealt : ℕ) (found : List FoundValue) (a b : NetworkValue) (
   pub on : (u : WholeLoop) → ContinuesLoop u v → ContinuesLoop u w
   pub accounts : AccountsOn dealt found a b v w
   pub drained : w.side.drained ≡ v.side.drained
-
--- no client is there, no job is asked for, and no stream waits for its backend's end
-pub record HasNoStream (w : WholeLoop) : Type 0 where
-  pub no_client : count_by is_some w.side.clients ≡ 0
-  pub no_job : count_by is_some w.asking ≡ 0
-  pub none_waits : w.closing ≡ []

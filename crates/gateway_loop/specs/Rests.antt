@@ -1,9 +1,11 @@
 -- Whether nothing is left to be done before a moment, by tests.
-use Rattle.std.specs.Prelude.{◌≡◌, ◌⊎◌, ◌≤◌, ℕ, Bool, true, false, ◌&&◌, ◌||◌, not, if◌then◌else◌, nat_le, is_some, ◌==◌, ◌/◌, ◌%◌, [], length, count_by, Option, Some, None}
+use Rattle.std.specs.List.{Contains}
+use Rattle.std.specs.Prelude.{◌≡◌, ◌⊎◌, ◌≤◌, ℕ, Bool, true, false, ◌&&◌, ◌||◌, not, if◌then◌else◌, nat_le, is_some, ◌==◌, ◌/◌, ◌%◌, List, [], length, count_by, Option, Some, None}
 use Rattle.branch_asking.specs.Asking.{AskingState, until_of}
 use Rattle.branch_asking.specs.Rests.{rests_asked}
 use Rattle.gateway_model.specs.Known.{Shown}
 use Rattle.gateway_theory.specs.Values.{shown}
+use Rattle.gateway_loop.specs.Names.{is_among}
 use Rattle.gateway_loop.specs.declared.tokens.Owner.{Owner}
 use Rattle.gateway_loop.specs.declared.tokens.Owner.TheVariants.{Client, Exchange}
 use Rattle.loop_model.specs.Asking.{AskingValue}
@@ -55,12 +57,20 @@ rests_asking s until place x =
     rests_asked x && (is_watched_as place x.attempt.watched
     && (is_at_most until (until_of x.attempt) && (is_at_most until x.job.job.deadline && is_some (s.recorded x.job.job.call))))
 
+-- it has a stream, or its name is among these
+abbrev pub is_named : List (List ℕ) → AskingState → Bool
+is_named waits x = is_some x.attempt.peer || is_among x.job.job.address waits
+
 abbrev pub AllRest : Option ℕ → LoopValue → Type 0
 AllRest until l = (i : ℕ) (x : ClientValue) → at i l.clients ≡ Some x → RestsClient (shown l.core) until i x
 
 -- no job waits, or all places are taken
 abbrev pub WaitsForPlace : WholeLoop → Type 0
 WaitsForPlace w = ((shown w.side.core).waiting ≡ []) ⊎ (1024 ≤ count_by is_some w.asking)
+
+-- each job that has no stream waits for its name
+abbrev pub AllNamed : WholeLoop → Type 0
+AllNamed w = (i : ℕ) (x : AskingValue) → asked_at i w.asking ≡ Some x → x.peer ≡ None → Contains w.waits x.job.address
 
 abbrev pub AllAskingRest : Option ℕ → WholeLoop → Type 0
 AllAskingRest until w = (i : ℕ) (x : AskingValue) → asked_at i w.asking ≡ Some x → RestsAsking (shown w.side.core) until i x

@@ -1,5 +1,5 @@
 //! How a loop ends.
-ghost use Rattle.gateway_loop.specs.Loop.{Goes, HasNoStream};
+ghost use Rattle.gateway_loop.specs.Loop.{Goes};
 ghost use Rattle.loop_model.specs.Accounts.{AccountsOn};
 ghost use Rattle.loop_model.specs.Whole.{ContinuesLoop, asked_at};
 ghost use Rattle.std.specs.Prelude.{◌≡◌, [], IfSome, None, count_by, is_some, true};
@@ -16,7 +16,9 @@ impl<H: ReplyHook + Drop, W: Wire + Drop> EventLoop<H, W> {
         ensures continues { ContinuesLoop self.old self.new }
         ensures accounts { AccountsOn 0 [] (N.value net.old) (N.value net.new) self.old self.new }
         ensures drained { self.new.side.drained ≡ self.old.side.drained }
-        ensures none_left { HasNoStream self.new }
+        ensures no_client { count_by is_some self.new.side.clients ≡ 0 }
+        ensures no_job { count_by is_some self.new.asking ≡ 0 }
+        ensures none_waits { self.new.closing ≡ [] }
     {
         self.close_exchanges(net);
         self.close_clients(net);

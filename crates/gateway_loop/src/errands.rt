@@ -90,8 +90,7 @@ impl<H: ReplyHook + Drop, W: Wire + Drop> EventLoop<H, W> {
     fn take_name<N: Network<W>>(&mut self, net: &mut N, looked_up: &LookedUp)
         ensures goes { Admits 0 (looked_up.now ∷ []) (N.value net.old) (N.value net.new) self.old self.new }
     {
-        self.note_found(looked_up);
-        if let Some(places) = self.names.found(looked_up.name()) {
+        if let Some(places) = self.note_found(looked_up) {
             self.stop_waits(&places);
             self.go_all(net, &places, looked_up);
         }

@@ -76,9 +76,9 @@ impl<H, W: Wire> Model for EventLoop<H, W> {
 
     ghost Value = { WholeLoop };
 
-    ghost view = { λ l. whole_loop l.framing l.clients l.asking.slots l.ended.items (beside l.closing (map (λ f. f.0) l.looked_up.items)) };
+    ghost view = { λ l. whole_loop l.framing l.clients l.asking.slots l.ended.items (beside l.closing (map (λ f. f.0) l.looked_up.items) l.names) };
 
-    ghost invariant = { λ l. AsksFairly (whole_loop l.framing l.clients l.asking.slots l.ended.items (beside [] (map (λ f. f.0) l.looked_up.items)))
+    ghost invariant = { λ l. AsksFairly (whole_loop l.framing l.clients l.asking.slots l.ended.items (beside [] (map (λ f. f.0) l.looked_up.items) []))
         × AreFramed l.framing l.asking.slots };
 }
 

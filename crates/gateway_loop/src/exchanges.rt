@@ -1,6 +1,6 @@
 ghost use Rattle.std.specs.List.{Contains};
 ghost use Rattle.std.specs.Prelude.{◌≡◌, ◌+◌, ◌∷◌, [], count_by, is_some, take, true};
-ghost use Rattle.gateway_loop.specs.Loop.{Admits, Goes, GoesAlone};
+ghost use Rattle.gateway_loop.specs.Loop.{Admits, Goes, GoesAlone, found_asking};
 ghost use Rattle.loop_model.specs.Accounts.{NetworkValue};
 ghost use Rattle.loop_model.specs.Whole.{asked_at};
 ghost use Rattle.loop_model.specs.Reports.{changed_at, tell, told_asking};
@@ -141,26 +141,26 @@ impl<H: ReplyHook + Drop, W: Wire + Drop> EventLoop<H, W> {
         has_address
     }
 
-    /// This was found for its name.
-    pub(crate) fn note_found(&mut self, looked_up: &LookedUp)
+    /// This was found for its name: the places of the exchanges that waited for it.
+    pub(crate) fn note_found(&mut self, looked_up: &LookedUp) -> Option<Slab<usize>>
         ensures goes { (a : NetworkValue) → Admits 0 (looked_up.now ∷ []) a a self.old self.new }
         ensures there { Contains self.new.looked_up looked_up.now }
     {
         self.looked_up = self.looked_up.and(looked_up, &true);
+        self.names.found(looked_up.name())
     }
 
     /// The first of these addresses, which were found for the name, are to be tried for the exchange in that place.
     pub(crate) fn find(&mut self, place: usize, looked_up: &LookedUp, first: VecDeque<SocketAddr>)
         requires there { Contains self.old.looked_up looked_up.now }
         requires first { first.items ≡ take 32 looked_up.now.addresses }
+        ensures exact { self.new ≡ record self.old { asking = changed_at (found_asking looked_up.now.name first.items) place self.old.asking } }
         ensures goes { GoesAlone self.old self.new }
     {
-        let Some(mut asking) = self.asking.try_remove(place) else {
-            return;
-        };
-        asking.find(looked_up.name(), first);
-        asking.begun_law();
-        let _place = self.asking.insert_reserved(asking);
+        if let Some(asking) = self.asking.get_mut(place) {
+            asking.find(looked_up.name(), first);
+            asking.begun_law();
+        }
     }
 
     /// The exchange in that place is over. One that had not ended is lost by this, whatever was read; None for want of

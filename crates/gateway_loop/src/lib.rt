@@ -22,7 +22,7 @@ mod tokens;
 mod turn;
 mod unasked;
 
-pub use branch_asking::{BranchEnd, Network};
+pub use branch_asking::{BranchEnd, NamesAsked, Network};
 pub use branch_causes::Cause;
 pub use comings::{Comings, Dealt, LookedUp};
 pub use event_loop::{EventLoop, LoopStanding};

@@ -1,11 +1,12 @@
 //! When a loop rests.
-ghost use Rattle.gateway_loop.specs.Rests.{AllAskingRest, WaitsForPlace, is_watched_as, rests_asking};
+ghost use Rattle.gateway_loop.specs.Rests.{AllAskingRest, AllNamed, WaitsForPlace, is_named, is_watched_as, rests_asking};
 ghost use Rattle.gateway_theory.specs.Values.{shown};
 ghost use Rattle.loop_model.specs.Rest.{RestsTill};
-ghost use Rattle.std.specs.Prelude.{◌≡◌, ℕ, IsFalse, IsTrue, None, Some};
+ghost use Rattle.std.specs.Prelude.{◌≡◌, ◌&&◌, ℕ, IsFalse, IsTrue, None, Some};
 
 use crate::event_loop::EventLoop;
 use crate::limits::{MOST_EXCHANGES, is_not_after};
+use crate::names::Names;
 use crate::next_turn::NextTurn;
 use crate::tokens::is_exchanges;
 use branch_asking::Asking;
@@ -49,8 +50,8 @@ impl<H: ReplyHook + Drop, W: Wire + Drop> EventLoop<H, W> {
             .min()
     }
 
-    /// Whether nothing is to be done before that moment: for no client, and for no job that is asked for; a job waits
-    /// only while all places are taken; and no deadline lies before it.
+    /// Whether nothing is to be done before that moment: for no client, and for no job that is asked for; one of these
+    /// that has no stream waits for its name; a job waits only while all places are taken; and no deadline lies before it.
     fn rest(&self, until: Option<u64>) -> bool
         ensures { IsTrue result → RestsTill until self.now }
     {
@@ -75,17 +76,19 @@ impl<H: ReplyHook + Drop, W: Wire + Drop> EventLoop<H, W> {
 
     /// Whether nothing is to be done for any job that is asked for before that moment.
     fn all_exchanges_rest(&self, until: Option<u64>) -> bool
-        ensures { IsTrue result → AllAskingRest until self.now }
+        ensures rests { IsTrue result → AllAskingRest until self.now }
+        ensures named { IsTrue result → AllNamed self.now }
     {
         let core = self.clients.core();
+        let names = &self.names;
         let mut asking = self.asking.iter();
-        asking.all(|asking| rests(core, asking.1, until, asking.0))
+        asking.all(|asking| rests(core, names, asking.1, until, asking.0))
     }
 
     /// Whether nothing is to be done for the job in that place before that moment.
     pub(crate) fn exchange_rests(&self, place: usize, until: Option<u64>) -> bool {
         let asking = self.asking.get(place);
-        asking.is_none_or(|asking| rests(self.clients.core(), asking, until, place))
+        asking.is_none_or(|asking| rests(self.clients.core(), &self.names, asking, until, place))
     }
 
     /// Whether somebody may not rest to whom nothing came: not all did as it was looked last, or a limit has come since.
@@ -98,14 +101,16 @@ impl<H: ReplyHook + Drop, W: Wire + Drop> EventLoop<H, W> {
     }
 }
 
-/// Whether nothing is to be done for the job, in that place, before that moment.
+/// Whether nothing is to be done for the job, in that place, before that moment: where it has no stream, its name is
+/// among these.
 fn rests<H: ReplyHook + Drop, W: Wire>(
     core: &Core<H>,
+    names: &Names,
     asking: &Asking<W>,
     until: Option<u64>,
     place: usize,
 ) -> bool
-    ensures { result ≡ rests_asking (shown core.now) until place asking.now }
+    ensures { result ≡ (rests_asking (shown core.now) until place asking.now && is_named names.now asking.now) }
 {
     let job = asking.job();
     asking.rests()
@@ -113,6 +118,7 @@ fn rests<H: ReplyHook + Drop, W: Wire>(
         && is_not_after(until, asking.until())
         && is_not_after(until, job.deadline())
         && core.is_wanted(&job.call())
+        && (asking.has_stream() || names.waits_for(job.address()))
 }
 
 /// Whether the stream of the job, if it is watched, is watched by the token of that place.

@@ -24,10 +24,11 @@ pub record StreamValue : Type 0 where
 abbrev pub stream_value : SocketAddr → List ℕ → List ℕ → Bool → StreamValue
 stream_value peer given got ended = record { peer = peer; given = given; got = got; ended = ended }
 
--- a job that is asked for: the addresses that were found for its name, the streams that were given up before, and the one that it goes
--- over: the address that it leads to, what was read from it, and what was written to it; nothing, while there is none
+-- a job that is asked for: whether its addresses are known, those that were found for its name, the streams that were given up before, and
+-- the one that it goes over: the address that it leads to, what was read from it, and what was written to it; nothing, while there is none
 pub record AskingValue : Type 0 where
   pub job : JobValue
+  pub known : Bool
   pub found : List SocketAddr
   pub tried : List StreamValue
   pub peer : Option SocketAddr

@@ -1,4 +1,5 @@
 -- When nothing is left that a loop could do without waiting.
+use Rattle.std.specs.List.{Contains}
 use Rattle.std.specs.Prelude.{◌≡◌, ⊤, ◌⊎◌, ℕ, ◌≤◌, ◌+◌, ◌*◌, Bool, true, false, List, [], is_some, count_by, Option, Some, None}
 use Rattle.gateway_model.specs.Known.{Shown}
 use Rattle.gateway_theory.specs.Values.{shown}
@@ -45,10 +46,11 @@ pub record RestsAsking (s : Shown) (until : Option ℕ) (i : ℕ) (x : AskingVal
   pub unread : (x.got ≡ [] → ⊥) → x.reads ≡ false
   pub unsent : (x.got ≡ request_of x.job → ⊥) → x.writes ≡ false
 
--- Nothing is to be done before that moment: for no client, and for no job that is asked for; a job waits only while all places are taken;
--- and no deadline lies before it.
+-- Nothing is to be done before that moment: for no client, and for no job that is asked for; one of these that has no stream waits for its
+-- name; a job waits only while all places are taken; and no deadline lies before it.
 pub record RestsTill (until : Option ℕ) (w : WholeLoop) : Type 0 where
   pub clients : (i : ℕ) (x : ClientValue) → at i w.side.clients ≡ Some x → RestsClient (shown w.side.core) until i x
   pub asking : (i : ℕ) (x : AskingValue) → asked_at i w.asking ≡ Some x → RestsAsking (shown w.side.core) until i x
+  pub named : (i : ℕ) (x : AskingValue) → asked_at i w.asking ≡ Some x → x.peer ≡ None → Contains w.waits x.job.address
   pub jobs : ((shown w.side.core).waiting ≡ []) ⊎ (1024 ≤ count_by is_some w.asking)
   pub deadline : AtMost until (shown w.side.core).deadline

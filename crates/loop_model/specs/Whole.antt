@@ -13,7 +13,8 @@ use Rattle.loop_model.specs.Growing.{Continues}
 use Rattle.loop_model.specs.Streams.{ClosedValue}
 
 -- what is seen of a loop: how replies of its backends may be framed, its clients' side, the jobs that are asked for, in their places, those
--- that were, in the order in which they ended, the streams that wait for their backends' ends, and what was found for names and handed in
+-- that were, in the order in which they ended, the streams that wait for their backends' ends, what was found for names and handed in, and
+-- the names that it waits for
 pub record WholeLoop : Type 0 where
   pub framing : Framing
   pub side : LoopValue
@@ -21,6 +22,7 @@ pub record WholeLoop : Type 0 where
   pub ended : List EndedValue
   pub closing : List ClosedValue
   pub looked_up : List FoundValue
+  pub waits : List (List ℕ)
 
 -- how many jobs with the property are asked for
 abbrev pub count_asked : (JobValue → Bool) → List (Option AskingValue) → ℕ

@@ -2,3 +2,4 @@ pub mod RowLemmas
 pub mod ExchangeLemmas
 pub mod LostLemmas
 pub mod ConnectionLemmas
+pub mod NameRows

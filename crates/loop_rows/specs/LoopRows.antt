@@ -19,6 +19,7 @@ use Rattle.http_pieces.specs.declared.reply.HttpReply.{HttpReply}
 use Rattle.http_pieces.specs.declared.reply_fault.ReplyFault.{ReplyFault}
 use Rattle.std.specs.declared.net.socket_addr.SocketAddr.{SocketAddr}
 use Rattle.loop_model.specs.Accounts.{Account, NetworkValue}
+use Rattle.loop_model.specs.Found.{FoundValue, LookUp}
 use Rattle.loop_model.specs.Streams.{ClosedValue}
 use Rattle.loop_model.specs.Asking.{AskingValue, EndedValue, StreamValue, ended_value}
 use Rattle.loop_model.specs.Clients.{ClientValue, client_value}
@@ -40,15 +41,15 @@ result_of conn request branch outcome = record { call = call_id conn request; br
 
 -- that job is asked for, and nothing was done for it yet
 abbrev pub asking : JobValue → AskingValue
-asking job = record { job = job; found = []; tried = []; peer = None; given = []; got = []; reads = false; writes = false; watched = None; reported = []; until = None; over = false }
+asking job = record { job = job; known = false; found = []; tried = []; peer = None; given = []; got = []; reads = false; writes = false; watched = None; reported = []; until = None; over = false }
 
 -- it is asked for so, over a stream to this address, which was found for its name behind those that were tried
 abbrev pub asked : SocketAddr → JobValue → List StreamValue → List ℕ → List ℕ → AskingValue
-asked a job tried given got = record { job = job; found = map (λ (s : StreamValue). s.peer) tried ++ a ∷ []; tried = tried; peer = Some a; given = given; got = got; reads = false; writes = false; watched = None; reported = []; until = None; over = false }
+asked a job tried given got = record { job = job; known = true; found = map (λ (s : StreamValue). s.peer) tried ++ a ∷ []; tried = tried; peer = Some a; given = given; got = got; reads = false; writes = false; watched = None; reported = []; until = None; over = false }
 
 -- .. over a stream to this address, where these were found for its name
 abbrev pub asked_at_peer : SocketAddr → List SocketAddr → JobValue → AskingValue
-asked_at_peer peer found job = record { job = job; found = found; tried = []; peer = Some peer; given = []; got = []; reads = false; writes = false; watched = None; reported = []; until = None; over = false }
+asked_at_peer peer found job = record { job = job; known = true; found = found; tried = []; peer = Some peer; given = []; got = []; reads = false; writes = false; watched = None; reported = []; until = None; over = false }
 
 -- it was asked for so, and that was recorded of it
 abbrev pub ended : SocketAddr → JobValue → List StreamValue → List ℕ → List ℕ → Option Outcome → EndedValue
@@ -75,6 +76,7 @@ loop_of framing core results handed asking ended = record {
   ended = ended;
   closing = [];
   looked_up = [];
+  waits = [];
 }
 
 -- .. that asks for one job
@@ -113,12 +115,12 @@ watched_client watched = client_value 0 false [] [] false [] false true watched 
 -- that job is asked for, so much of its request was written, and this may be done at its stream; and whether it has ended
 abbrev pub standing_job : JobValue → List ℕ → Bool → Bool → Bool → AskingValue
 standing_job job got reads writes over =
-    record { job = job; found = []; tried = []; peer = None; given = []; got = got; reads = reads; writes = writes; watched = None; reported = []; until = None; over = over }
+    record { job = job; known = false; found = []; tried = []; peer = None; given = []; got = got; reads = reads; writes = writes; watched = None; reported = []; until = None; over = over }
 
 -- .. over a stream to this address, at which nothing may be done, and which is watched so; and until when it has to take a byte
 abbrev pub watched_job : SocketAddr → JobValue → List ℕ → Option (ℕ × Bool) → Option ℕ → AskingValue
 watched_job a job got watched until =
-    record { job = job; found = []; tried = []; peer = Some a; given = []; got = got; reads = false; writes = false; watched = watched; reported = []; until = until; over = false }
+    record { job = job; known = true; found = []; tried = []; peer = Some a; given = []; got = got; reads = false; writes = false; watched = watched; reported = []; until = until; over = false }
 
 -- a read may bring something at the stream of that token
 abbrev pub readable : ℕ → Ready
@@ -126,7 +128,11 @@ readable token = record { token = token; readable = true; writable = false; read
 
 -- a loop with these clients, which asks for these jobs
 abbrev pub loop_with : GatewayValue → List (Option ClientValue) → List (Option AskingValue) → WholeLoop
-loop_with core clients asking = record { framing = framing.Fixed; side = with_clients core clients []; asking = asking; ended = []; closing = []; looked_up = [] }
+loop_with core clients asking = record { framing = framing.Fixed; side = with_clients core clients []; asking = asking; ended = []; closing = []; looked_up = []; waits = [] }
+
+-- .. without clients, which waits for these names
+abbrev pub loop_that_waits : GatewayValue → List (Option AskingValue) → List FoundValue → List (List ℕ) → WholeLoop
+loop_that_waits core asking looked_up waits = record (loop_with core [] asking) { looked_up = looked_up; waits = waits }
 
 -- nothing is there for connection 0, which goes on
 pub record IsQuietAt (s : Shown) : Type 0 where
@@ -139,16 +145,24 @@ IsWantedBy s job = is_some (s.recorded job.call) ≡ true
 
 -- a network that made streams to these addresses, and closed these
 abbrev pub network : List SocketAddr → List ClosedValue → NetworkValue
-network made closed = record { told = []; made = made; closed = closed }
+network made closed = record { told = []; made = made; closed = closed; asked = [] }
 
 -- before its loop it did nothing, and so many streams were dealt to that
 abbrev pub account : ℕ → Account
-account dealt = record { before = network [] []; dealt = dealt; found = [] }
+account dealt = record { before = network [] []; dealt = dealt; lookups = [] }
+
+-- .. none was, and this was done with names
+abbrev pub account_of : List LookUp → Account
+account_of lookups = record { before = network [] []; dealt = 0; lookups = lookups }
+
+-- a network that took these names to look up
+abbrev pub network_asked : List (List ℕ) → NetworkValue
+network_asked names = record { told = []; made = []; closed = []; asked = names }
 
 -- a loop without clients, whose jobs ended so, and where these streams wait to be closed
 abbrev pub with_ends : Framing → GatewayValue → List EndedValue → List ClosedValue → WholeLoop
-with_ends framing core ended closing = record { framing = framing; side = with_clients core [] []; asking = []; ended = ended; closing = closing; looked_up = [] }
+with_ends framing core ended closing = record { framing = framing; side = with_clients core [] []; asking = []; ended = ended; closing = closing; looked_up = []; waits = [] }
 
 -- .. with these clients, and these who have gone
 abbrev pub with_gone : Framing → GatewayValue → List (Option ClientValue) → List ClientValue → WholeLoop
-with_gone framing core clients gone = record { framing = framing; side = with_clients core clients gone; asking = []; ended = []; closing = []; looked_up = [] }
+with_gone framing core clients gone = record { framing = framing; side = with_clients core clients gone; asking = []; ended = []; closing = []; looked_up = []; waits = [] }

@@ -7,8 +7,9 @@ ghost use Rattle.gateway_theory.specs.Values.{GatewayValue};
 ghost use Rattle.http_pieces.specs.declared.framing.Framing.{Framing};
 ghost use Rattle.loop_model.specs.Accounts.{AccountsFor};
 ghost use Rattle.loop_model.specs.Asking.{stream_value};
+ghost use Rattle.loop_model.specs.Found.{Asked, Found, found_value};
 ghost use Rattle.loop_model.specs.Streams.{closed_value};
-ghost use Rattle.loop_rows.specs.LoopRows.{account, asked, asks, client_of, client_with, ended, loop_of, network, with_ends, with_gone};
+ghost use Rattle.loop_rows.specs.LoopRows.{account, account_of, asked, asks, client_of, client_with, ended, loop_of, loop_that_waits, network, network_asked, with_ends, with_gone};
 
 /// A stream that was made is that of a job; it is closed once that has ended, or waits to be; and so is a stream that was
 /// given up, and a client's.
@@ -42,4 +43,16 @@ fn streams_out_of_sight()
     ensures dealt { (f : Framing) (v : GatewayValue) → AccountsFor (account 1) (network [] []) (loop_of f v [] [] [] []) → ⊥ }
     ensures written { (a : SocketAddr) (f : Framing) (v : GatewayValue) (j : JobValue) (o : Option Outcome) (byte : ℕ)
         → AccountsFor (account 0) (network (a ∷ []) (closed_value (Some a) [] (byte ∷ []) ∷ [])) (with_ends f v (ended a j [] [] [] o ∷ []) []) → ⊥ }
+{}
+
+/// A loop waits for a name that its network took to look up, and for which nothing was found since; and for no other.
+fn names_of_a_loop()
+    ensures asked { (v : GatewayValue) (name : List ℕ) → AccountsFor (account_of (Asked name ∷ [])) (network_asked (name ∷ [])) (loop_that_waits v [] [] (name ∷ [])) }
+    ensures found { (v : GatewayValue) (name : List ℕ) (a : SocketAddr)
+        → AccountsFor (account_of (Asked name ∷ Found (found_value name (a ∷ [])) ∷ [])) (network_asked (name ∷ [])) (loop_that_waits v [] (found_value name (a ∷ []) ∷ []) []) }
+    ensures unasked { (v : GatewayValue) (name : List ℕ) → AccountsFor (account 0) (network [] []) (loop_that_waits v [] [] (name ∷ [])) → ⊥ }
+    ensures untold { (v : GatewayValue) (name : List ℕ) → AccountsFor (account 0) (network_asked (name ∷ [])) (loop_that_waits v [] [] []) → ⊥ }
+    ensures untaken { (v : GatewayValue) (name : List ℕ) → AccountsFor (account_of (Asked name ∷ [])) (network [] []) (loop_that_waits v [] [] (name ∷ [])) → ⊥ }
+    ensures stale { (v : GatewayValue) (name : List ℕ) (a : SocketAddr)
+        → AccountsFor (account_of (Asked name ∷ Found (found_value name (a ∷ [])) ∷ [])) (network_asked (name ∷ [])) (loop_that_waits v [] (found_value name (a ∷ []) ∷ []) (name ∷ [])) → ⊥ }
 {}

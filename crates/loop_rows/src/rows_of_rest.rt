@@ -8,7 +8,7 @@ ghost use Rattle.http_pieces.specs.declared.framing.Framing.{Framing};
 ghost use Rattle.std.specs.declared.net.socket_addr.SocketAddr.{SocketAddr};
 ghost use Rattle.loop_model.specs.Asking.{request_of};
 ghost use Rattle.loop_model.specs.Rest.{RestsAsking, RestsClient, RestsTill};
-ghost use Rattle.loop_rows.specs.LoopRows.{IsQuietAt, IsWantedBy, lingering_client, loop_of, standing_client, standing_job, watched_client, watched_job};
+ghost use Rattle.loop_rows.specs.LoopRows.{IsQuietAt, IsWantedBy, lingering_client, loop_of, loop_that_waits, standing_client, standing_job, watched_client, watched_job};
 
 /// One to whom nothing is owed rests while nothing comes; one to whom something is owed while its stream takes no more.
 fn rests_of_clients()
@@ -64,11 +64,17 @@ fn rests_of_streams()
         → RestsAsking s (Some 6) 1 (watched_job a j got (Some (3, true)) (Some 5)) → ⊥ }
 {}
 
-/// No loop rests with a job and a place for it, or behind the deadline of a call.
+/// No loop rests with a job and a place for it, or behind the deadline of a call; nor with a job that is asked for and
+/// has no stream, unless it waits for its name.
 fn rests_of_loops()
     ensures empty { (f : Framing) (v : GatewayValue) → (shown v).waiting ≡ [] → (shown v).deadline ≡ None → RestsTill None (loop_of f v [] [] [] []) }
     ensures job { (f : Framing) (v : GatewayValue) (until : Option ℕ) (j : JobValue) (rest : List JobValue)
         → (shown v).waiting ≡ j ∷ rest → RestsTill until (loop_of f v [] [] [] []) → ⊥ }
     ensures slept_over { (f : Framing) (v : GatewayValue) → (shown v).deadline ≡ Some 5 → RestsTill (Some 6) (loop_of f v [] [] [] []) → ⊥ }
     ensures forgotten { (f : Framing) (v : GatewayValue) → (shown v).deadline ≡ Some 5 → RestsTill None (loop_of f v [] [] [] []) → ⊥ }
+    ensures named { (v : GatewayValue) (j : JobValue) → (shown v).waiting ≡ [] → (shown v).deadline ≡ None → IsWantedBy (shown v) j → j.deadline ≡ None
+        → RestsTill None (loop_that_waits v (Some (standing_job j [] false false false) ∷ []) [] (j.address ∷ [])) }
+    ensures unnamed { (v : GatewayValue) (until : Option ℕ) (j : JobValue) → RestsTill until (loop_that_waits v (Some (standing_job j [] false false false) ∷ []) [] []) → ⊥ }
+    ensures anothers { (v : GatewayValue) (until : Option ℕ) (j : JobValue) (other : List ℕ) → (other ≡ j.address → ⊥)
+        → RestsTill until (loop_that_waits v (Some (standing_job j [] false false false) ∷ []) [] (other ∷ [])) → ⊥ }
 {}

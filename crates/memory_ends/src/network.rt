@@ -1,7 +1,7 @@
 use crate::stream::{MemoryEnd, MemoryStream, memory_stream};
 use branch_causes::Cause;
 use gateway_core::{CallId, ConnId, Job, ReplyEntry, RequestLabel};
-use gateway_loop::{BranchEnd, Network};
+use gateway_loop::{BranchEnd, NamesAsked, Network};
 use http_server::Log;
 use std::alloc::{AllocError, Global};
 use std::collections::VecDeque;
@@ -18,6 +18,7 @@ pub struct ScriptedNetwork {
     moments: Log<u64, u64>,
     made: Log<SocketAddr, ()>,
     closed: Log<Told<MemoryStream>, ()>,
+    asked: NamesAsked,
     closings: u64,
     backends: VecDeque<MemoryStream>,
     connected: Vec<SocketAddr>,
@@ -44,6 +45,7 @@ impl ScriptedNetwork {
             moments: Log::new(),
             made: Log::new(),
             closed: Log::new(),
+            asked: NamesAsked::new(),
             closings: 0,
             backends: VecDeque::new(alloc),
             connected: Vec::new(alloc),
@@ -166,9 +168,9 @@ fn copied(alloc: Global, text: Option<&str>) -> Option<String> {
 }
 
 impl Network<Told<MemoryStream>> for ScriptedNetwork {
-    ghost use Rattle.memory_ends.specs.Networks.{network_value};
+    ghost use Rattle.loop_model.specs.Accounts.{network_value};
 
-    ghost value = { λ n. network_value n.moments.items n.made.items n.closed.items };
+    ghost value = { λ n. network_value n.moments.items n.made.items n.closed.items n.asked.items };
 
     fn moment(&mut self) -> u64 {
         let moment = self.moment;
@@ -209,10 +211,14 @@ impl Network<Told<MemoryStream>> for ScriptedNetwork {
         if !self.finds_names {
             return false;
         }
-        match String::from_str(self.alloc, name) {
-            Ok(name) => self.looked_up.push(name).is_ok(),
-            Err(_) => false,
+        let Ok(copy) = String::from_str(self.alloc, name) else {
+            return false;
+        };
+        if self.looked_up.push(copy).is_err() {
+            return false;
         }
+        self.asked = self.asked.and(name);
+        true
     }
 
     fn tell_reply(

@@ -27,7 +27,7 @@ returns g c =
     let put = c.insert_reserved-place in
     let slots : c.reserve.new.self.slots ≡ i.asking.slots = ap (λ (s : Slab AskingState). s.slots) c.reserve.ensures.rest_kept in record {
       goes = rw (← c.self.view_is) (λ a.
-          goes_begin i.asking.slots put.new.self.slots put.result i.framing i.clients c.take_job.new.self i.ended.items (beside i.closing (map (λ f. f.0) i.looked_up.items)) c.new-asking.result c.in_ok-job.ensures.goes c.in_ok-job.ensures.still
+          goes_begin i.asking.slots put.new.self.slots put.result i.framing i.clients c.take_job.new.self i.ended.items (beside i.closing (map (λ f. f.0) i.looked_up.items) i.names) c.new-asking.result c.in_ok-job.ensures.goes c.in_ok-job.ensures.still
           (sym (ap (λ (old : List (Option AskingState)). slice_index_or old put.result None) slots) ∙ put.ensures.was_vacant)
           (subst (λ (old : List (Option AskingState)). Put old put.new.self.slots put.result (Some c.new-asking.result)) slots (put_one c.reserve.new.self put.new.self put.result _ put.ensures.updates))
           c.new-asking.ensures.fresh.0 c.new-asking.ensures.fresh.1 a);
@@ -37,5 +37,5 @@ pub returns-in_err-job : goal.returns-in_err-job
 returns-in_err-job g c =
     let i = c.self.inside in
     let slots : c.reserve.new.self.slots ≡ i.asking.slots = ap (λ (s : Slab AskingState). s.slots) c.reserve.ensures.rest_kept in record {
-      goes = rw (← c.self.view_is, slots) (λ a. goes_still i.framing i.asking.slots i.ended.items (beside i.closing (map (λ f. f.0) i.looked_up.items)) _ _ c.take_job.ensures.goes c.take_job.ensures.still);
+      goes = rw (← c.self.view_is, slots) (λ a. goes_still i.framing i.asking.slots i.ended.items (beside i.closing (map (λ f. f.0) i.looked_up.items) i.names) _ _ c.take_job.ensures.goes c.take_job.ensures.still);
     }

@@ -1,11 +1,11 @@
-use Rattle.gateway_loop.proofs.AskLemmas.{accounts_on, goes_on, goes_then}
+use Rattle.gateway_loop.proofs.AskLemmas.{goes_on, goes_then}
 use Rattle.gateway_loop.proofs.event_loop.EventLoop.close_all.Goals as goal
 
 pub returns-clause-continues : goal.returns-clause-continues
 returns-clause-continues g c = goes_on _ _ (goes_then _ _ _ c.close_exchanges.ensures.goes (goes_then _ _ _ c.close_clients.ensures.goes c.close_waiting.ensures.goes))
 
 pub returns-clause-accounts : goal.returns-clause-accounts
-returns-clause-accounts g c = accounts_on _ _ (goes_then _ _ _ c.close_exchanges.ensures.goes (goes_then _ _ _ c.close_clients.ensures.goes c.close_waiting.ensures.goes))
+returns-clause-accounts g c = (goes_then _ _ _ c.close_exchanges.ensures.goes (goes_then _ _ _ c.close_clients.ensures.goes c.close_waiting.ensures.goes)).accounts
 
 pub returns-clause-drained : goal.returns-clause-drained
 returns-clause-drained g c = (goes_then _ _ _ c.close_exchanges.ensures.goes (goes_then _ _ _ c.close_clients.ensures.goes c.close_waiting.ensures.goes)).drained

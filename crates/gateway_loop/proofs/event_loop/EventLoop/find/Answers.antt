@@ -1,13 +1,42 @@
-use Rattle.gateway_loop.proofs.Words.{sym, beside, map}
-use Rattle.gateway_loop.proofs.AskLemmas.{goes_back, finds_back}
+use Rattle.gateway_loop.proofs.Words.{List, Option, ap, sym, whole_loop, AskingValue, beside, map}
+use Rattle.gateway_loop.specs.Loop.{found_asking}
+use Rattle.gateway_loop.proofs.AskLemmas.{finds_put, found_asked, goes_put, goes_same}
+use Rattle.gateway_loop.proofs.Places.{put_set}
+use Rattle.gateway_loop.proofs.TellLemmas.{asking_changed, asking_same}
 use Rattle.gateway_loop.proofs.event_loop.EventLoop.find.Goals as goal
+use Rattle.gateway_loop.proofs.event_loop.EventLoop.find.Goals.{in-Some, in_default}
 
-pub invariant_of-self-2 : goal.invariant_of-self-2
-invariant_of-self-2 g c =
-    let put = c.insert_reserved-place.ensures in
-    finds_back c.self.inside.framing (map (λ f. f.0) c.self.inside.looked_up.items) c.self.inside.clients c.self.inside.ended.items c.try_remove.ensures.updates c.in-Some.ensures.key_is_next put.key put.updates (sym c.in-Some.ensures.value) c.find.ensures.job c.find.ensures.framing c.args.looked_up.now c.args.first.items (rw c.name.ensures at c.find.ensures.own) (rw c.name.ensures at c.find.ensures.found) (rw (← c.self.view_is) at c.requires.there) c.requires.first c.begun_law.ensures.begun c.begun_law.ensures.untouched c.self.invariant
+pub invariant_of-self : goal.invariant_of-self
+invariant_of-self g c =
+    let i = c.self.inside in
+    let there = rw (← c.self.view_is) at c.requires.there in
+    elim c.match-get_mut.branch [
+      | in-Some w ↦ rw w.self-inside-is
+          (finds_put i.framing (map (λ f. f.0) i.looked_up.items) i.clients i.asking.slots _ i.ended.items c.args.place w.in-Some.asking.now w.find.new.self (sym w.in-Some.ensures.value)
+          w.find.ensures.job w.find.ensures.framing c.args.looked_up.now c.args.first.items (rw w.name.ensures at w.find.ensures.own) (rw w.name.ensures at w.find.ensures.found) there c.requires.first
+          (put_set i.asking.slots c.args.place w.in-Some.asking.now w.find.new.self (sym w.in-Some.ensures.value)) w.begun_law.ensures.begun w.begun_law.ensures.untouched c.self.invariant)
+      | in_default w ↦ rw w.self-inside-is c.self.invariant
+    ]
 
-pub returns : goal.returns
-returns g c =
-    let put = c.insert_reserved-place.ensures in
-    record { goes = rw (← c.self.view_is) (λ a. goes_back c.self.inside.framing (map (λ f. f.0) c.self.inside.looked_up.items) c.self.inside.clients c.self.inside.ended.items (beside c.self.inside.closing (map (λ f. f.0) c.self.inside.looked_up.items)) c.try_remove.ensures.updates c.in-Some.ensures.key_is_next put.key put.updates (sym c.in-Some.ensures.value) c.find.ensures.on c.find.ensures.streams a) }
+pub returns-clause-exact : goal.returns-clause-exact
+returns-clause-exact g c =
+    let i = c.self.inside in
+    let name = c.args.looked_up.now.name in
+    let with_asking = λ (asking : List (Option AskingValue)). record (whole_loop i.framing i.clients i.asking.slots i.ended.items (beside i.closing (map (λ f. f.0) i.looked_up.items) i.names)) { asking = asking } in
+    rw (← c.self.view_is) (elim c.match-get_mut.branch [
+      | in-Some w ↦ rw w.self-inside-is
+          (ap with_asking
+          (asking_changed (found_asking name c.args.first.items) i.asking.slots c.args.place w.in-Some.asking.now w.find.new.self (sym w.in-Some.ensures.value)
+          (found_asked name c.args.first.items w.in-Some.asking.now w.find.new.self (rw w.name.ensures at w.find.ensures.found))))
+      | in_default w ↦ rw w.self-inside-is (ap with_asking (asking_same (found_asking name c.args.first.items) i.asking.slots c.args.place (sym w.in_default.ensures.value)))
+    ])
+
+pub returns-clause-goes : goal.returns-clause-goes
+returns-clause-goes g c =
+    let i = c.self.inside in
+    rw (← c.self.view_is) (elim c.match-get_mut.branch [
+      | in-Some w ↦ rw w.self-inside-is (λ a.
+          goes_put i.asking.slots _ c.args.place i.framing i.clients i.ended.items (beside i.closing (map (λ f. f.0) i.looked_up.items) i.names) w.in-Some.asking.now w.find.new.self (sym w.in-Some.ensures.value)
+          (put_set i.asking.slots c.args.place w.in-Some.asking.now w.find.new.self (sym w.in-Some.ensures.value)) w.find.ensures.on w.find.ensures.streams a)
+      | in_default w ↦ rw w.self-inside-is (λ a. goes_same _)
+    ])

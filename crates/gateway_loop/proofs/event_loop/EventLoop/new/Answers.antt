@@ -10,6 +10,7 @@ returns-clause-accounts g c = λ a. first_accounts _ record {
   none_ended = rw c.new-6.ensures refl;
   none_closing = c.in_ok-new-3.ensures;
   none_found = rw c.new-7.ensures refl;
+  none_waits = c.new.ensures;
 } a
 
 pub invariant_of-result : goal.invariant_of-result

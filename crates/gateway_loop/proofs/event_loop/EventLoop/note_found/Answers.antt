@@ -13,8 +13,8 @@ pub returns-clause-goes : goal.returns-clause-goes
 returns-clause-goes g c =
     let i = c.self.inside in
     rw (← c.self.view_is)
-    (λ a. admits_found i.framing i.clients i.asking.slots i.ended.items (beside i.closing (map (λ f. f.0) i.looked_up.items)) (map (λ f. f.0) c.and-self-inside.result.items) c.args.looked_up.now
-    (noted i.looked_up.items c.and-self-inside.result.items _ _ c.and-self-inside.ensures) a)
+    (λ a. admits_found i.framing i.clients i.asking.slots i.ended.items (beside i.closing (map (λ f. f.0) i.looked_up.items) i.names) (map (λ f. f.0) c.and-self-inside.result.items) c.found.new.self c.args.looked_up.now
+    (noted i.looked_up.items c.and-self-inside.result.items _ _ c.and-self-inside.ensures) (rw c.name.ensures at c.found.ensures) a)
 
 pub returns-clause-there : goal.returns-clause-there
 returns-clause-there g c =

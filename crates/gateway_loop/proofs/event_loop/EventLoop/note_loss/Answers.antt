@@ -10,4 +10,4 @@ invariant_of-self-2 g c =
 pub returns : goal.returns
 returns g c =
     let put = c.insert_reserved-place.ensures in
-    record { goes = rw (← c.self.view_is) (λ a. goes_back c.self.inside.framing (map (λ f. f.0) c.self.inside.looked_up.items) c.self.inside.clients c.self.inside.ended.items (beside c.self.inside.closing (map (λ f. f.0) c.self.inside.looked_up.items)) c.try_remove.ensures.updates c.in-Some.ensures.key_is_next put.key put.updates (sym c.in-Some.ensures.value) c.lose.ensures.on c.lose.ensures.streams a) }
+    record { goes = rw (← c.self.view_is) (λ a. goes_back c.self.inside.framing (map (λ f. f.0) c.self.inside.looked_up.items) c.self.inside.clients c.self.inside.ended.items (beside c.self.inside.closing (map (λ f. f.0) c.self.inside.looked_up.items) c.self.inside.names) c.try_remove.ensures.updates c.in-Some.ensures.key_is_next put.key put.updates (sym c.in-Some.ensures.value) c.lose.ensures.on c.lose.ensures.streams a) }

@@ -15,7 +15,7 @@ pub returns-clause-goes : goal.returns-clause-goes
 returns-clause-goes g c =
     let i = c.self.inside in
     rw (← c.self.view_is)
-    (goes_ended i.asking.slots c.try_remove.new.self.slots c.args.place i.framing i.clients c.record.new.self i.ended.items c.and-self-inside.result.items (beside i.closing (map (λ f. f.0) i.looked_up.items)) c.put.new.self _ c.in_ok-asking.asking c.conclude-outcome.new.self
+    (goes_ended i.asking.slots c.try_remove.new.self.slots c.args.place i.framing i.clients c.record.new.self i.ended.items c.and-self-inside.result.items (beside i.closing (map (λ f. f.0) i.looked_up.items) i.names) c.put.new.self _ c.in_ok-asking.asking c.conclude-outcome.new.self
     c.conclude-outcome.result c.record.ensures.goes c.record.ensures.still (sym c.in_ok-asking.ensures.value) (put_one i.asking c.try_remove.new.self c.args.place _ c.try_remove.ensures.updates) c.and-self-inside.ensures
     c.conclude-outcome.ensures.on c.conclude-outcome.ensures.streams c.into_parts-job.ensures.stream c.put.ensures)
 

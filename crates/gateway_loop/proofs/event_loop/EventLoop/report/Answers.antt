@@ -1,4 +1,4 @@
-use Rattle.gateway_loop.proofs.Words.{List, Option, ap, sym, whole_loop, AskingState, AskingValue, asked_for, beside, map}
+use Rattle.gateway_loop.proofs.Words.{List, Option, ap, sym, whole_loop, AskingState, AskingValue, asked_for, beside, map, told_asking}
 use Rattle.gateway_loop.proofs.AskLemmas.{goes_put, goes_same, keeps_put, same_streams}
 use Rattle.gateway_loop.proofs.Places.{put_set}
 use Rattle.gateway_loop.proofs.TellLemmas.{asking_changed, asking_same}
@@ -19,12 +19,12 @@ invariant_of-self g c =
 pub returns-clause-exact : goal.returns-clause-exact
 returns-clause-exact g c =
     let i = c.self.inside in
-    let with_asking = λ (asking : List (Option AskingValue)). record (whole_loop i.framing i.clients i.asking.slots i.ended.items (beside i.closing (map (λ f. f.0) i.looked_up.items))) { asking = asking } in
+    let with_asking = λ (asking : List (Option AskingValue)). record (whole_loop i.framing i.clients i.asking.slots i.ended.items (beside i.closing (map (λ f. f.0) i.looked_up.items) i.names)) { asking = asking } in
     rw (← c.self.view_is) (elim c.match-get_mut.branch [
       | in-Some w ↦ rw w.self-inside-is
           (ap with_asking
-          (asking_changed c.args.ready i.asking.slots c.args.place w.in-Some.asking.now w.report.new.self (sym w.in-Some.ensures.value) (ap (λ (x : AskingState). asked_for x) w.report.ensures.noted)))
-      | in_default w ↦ rw w.self-inside-is (ap with_asking (asking_same c.args.ready i.asking.slots c.args.place (sym w.in_default.ensures.value)))
+          (asking_changed (told_asking c.args.ready) i.asking.slots c.args.place w.in-Some.asking.now w.report.new.self (sym w.in-Some.ensures.value) (ap (λ (x : AskingState). asked_for x) w.report.ensures.noted)))
+      | in_default w ↦ rw w.self-inside-is (ap with_asking (asking_same (told_asking c.args.ready) i.asking.slots c.args.place (sym w.in_default.ensures.value)))
     ])
 
 pub returns-clause-goes : goal.returns-clause-goes
@@ -32,7 +32,7 @@ returns-clause-goes g c =
     let i = c.self.inside in
     rw (← c.self.view_is) (elim c.match-get_mut.branch [
       | in-Some w ↦ rw w.self-inside-is (λ a.
-          goes_put i.asking.slots _ c.args.place i.framing i.clients i.ended.items (beside i.closing (map (λ f. f.0) i.looked_up.items)) w.in-Some.asking.now w.report.new.self (sym w.in-Some.ensures.value)
+          goes_put i.asking.slots _ c.args.place i.framing i.clients i.ended.items (beside i.closing (map (λ f. f.0) i.looked_up.items) i.names) w.in-Some.asking.now w.report.new.self (sym w.in-Some.ensures.value)
           (put_set i.asking.slots c.args.place w.in-Some.asking.now w.report.new.self (sym w.in-Some.ensures.value)) w.report.ensures.on
           (same_streams w.in-Some.asking.now w.report.new.self (ap (λ (x : AskingState). x.tried) w.report.ensures.noted) (ap (λ (x : AskingState). x.attempt.peer) w.report.ensures.noted)) a)
       | in_default w ↦ rw w.self-inside-is (λ a. goes_same _)

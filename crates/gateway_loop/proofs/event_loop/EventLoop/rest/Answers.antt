@@ -8,7 +8,8 @@ returns g c =
     let deadline = c.next_deadline.ensures.least ∙ ap (λ (v : GatewayValue). (shown v).deadline) c.core.ensures in
     λ yes. record {
       clients = rw (← c.self.view_is) (c.all_rest.ensures c.if-not-all_rest.false);
-      asking = c.all_exchanges_rest.ensures yes;
+      asking = c.all_exchanges_rest.ensures.rests yes;
+      named = c.all_exchanges_rest.ensures.named yes;
       jobs = c.may_begin.ensures c.if-may_begin.false;
       deadline = rw (← c.self.view_is) (subst (λ (d : Option ℕ). AtMost c.args.until d) deadline (at_most c.args.until c.next_deadline.result (sym c.is_not_after.ensures ∙ c.if-not-is_not_after.false)));
     }

@@ -1,4 +1,4 @@
-use Rattle.gateway_loop.proofs.Words.{ℕ, ◌≡◌, ◌∙◌, ◌+◌, ◌++◌, [], List, ap, arith, length, subst, Admits, ContinuesLoop, FoundValue, Ready, WholeLoop, tell_all}
+use Rattle.gateway_loop.proofs.Words.{ℕ, ◌≡◌, ◌∙◌, ◌+◌, [], List, ap, arith, length, subst, Admits, ContinuesLoop, Ready, WholeLoop, tell_all}
 use Rattle.gateway_loop.proofs.AskLemmas.{admits_goes, admits_more, admits_on, goes_admits, ticked_on}
 use Rattle.gateway_loop.proofs.TellLemmas.{continues_beside, ticked_since, tells_no_moment}
 use Rattle.gateway_loop.proofs.event_loop.EventLoop.turn.Goals as goal
