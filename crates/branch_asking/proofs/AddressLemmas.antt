@@ -1,5 +1,5 @@
 -- Which addresses are a job's, and in what order it goes over them.
-use Rattle.branch_asking.proofs.Words.{◌≡◌, ℕ, Bool, true, false, List, [], ◌∷◌, ◌++◌, map, Option, None, Some, refl, sym, ap, ◌∙◌, subst, append-nil, map-append, inl, inr, ⊎_elim, option_to_list, SocketAddr, StreamValue, AreAddressesOf, AddressesValue, AreOf, HasParsed, BackendValue, IsPrefixOf, addresses_value, next_of, once_found, once_spelt, peers_of}
+use Rattle.branch_asking.proofs.Words.{◌≡◌, ℕ, Bool, true, false, List, [], ◌∷◌, ◌++◌, None, Some, refl, sym, ap, ◌∙◌, subst, append-nil, inl, inr, ⊎_elim, option_to_list, SocketAddr, AreAddressesOf, AddressesValue, AreOf, HasParsed, IsPrefixOf, addresses_value, next_of, once_found, once_spelt}
 use Rattle.std.proofs.Common.{append_assoc}
 use Rattle.std.specs.Prelude.{if◌then◌else◌}
 use Rattle.std.specs.Net.Grammar.{IsSocketText}
@@ -104,28 +104,3 @@ found_more text tried x more are = by_it x.known refl
     by_it : (b : Bool) → x.known ≡ b → IsPrefixOf x.found (if b then x else addresses_value x.first more true more).found
     by_it true on = ([], sym (append-nil x.found))
     by_it false off = (more, ap (λ (l : List SocketAddr). l ++ more) (sym (none_found text tried x (are.none off) are.in_order)))
-
--- ---- the streams that it went over
-
-abbrev streams : List (BackendValue × Bool) → List StreamValue
-streams items = map (λ (t : BackendValue × Bool). t.0.stream) items
-
-abbrev peer : StreamValue → SocketAddr
-peer s = s.peer
-
--- its stream was given up, and another follows
-pub peers_noted : (items later : List (BackendValue × Bool)) (before : BackendValue) (was : Option SocketAddr) (a : SocketAddr) → later ≡ items ++ (before, true) ∷ []
-    → was ≡ Some before.stream.peer → peers_of (streams later) (Some a) ≡ peers_of (streams items) was ++ a ∷ []
-peers_noted items later before was a is had =
-    ap (λ (l : List SocketAddr). l ++ a ∷ [])
-    (ap (λ (l : List (BackendValue × Bool)). map peer (streams l)) is
-    ∙ ap (λ (l : List StreamValue). map peer l) (map-append (λ (t : BackendValue × Bool). t.0.stream) items ((before, true) ∷ []))
-    ∙ map-append peer (streams items) (before.stream ∷ [])
-    ∙ ap (λ (o : Option SocketAddr). map peer (streams items) ++ option_to_list o) (sym had))
-
--- it had none, and its first follows
-pub peers_first : (items : List (BackendValue × Bool)) (was : Option SocketAddr) (a : SocketAddr) → was ≡ None
-    → peers_of (streams items) (Some a) ≡ peers_of (streams items) was ++ a ∷ []
-peers_first items was a none =
-    ap (λ (l : List SocketAddr). l ++ a ∷ [])
-    (sym (append-nil (map peer (streams items))) ∙ ap (λ (o : Option SocketAddr). map peer (streams items) ++ option_to_list o) (sym none))

@@ -1,5 +1,5 @@
 -- A job that is asked for: what was written and read for it, and how that ends.
-use Rattle.std.specs.Prelude.{◌≡◌, ℕ, Bool, true, false, ◌&&◌, ◌||◌, All, List, [], ◌∷◌, ◌++◌, map, Option, Some, None, option_map, option_and_then, is_some, if◌then◌else◌}
+use Rattle.std.specs.Prelude.{◌≡◌, ℕ, Bool, true, false, ◌&&◌, ◌||◌, All, List, [], ◌∷◌, ◌++◌, drop, length, map, Option, Some, None, option_map, option_and_then, option_to_list, is_some, if◌then◌else◌}
 use Rattle.std.specs.Option.{option_map_or}
 use Rattle.std.specs.declared.net.socket_addr.SocketAddr.{SocketAddr}
 use Rattle.http_pieces.specs.declared.framing.Framing.{Framing}
@@ -10,8 +10,10 @@ use Rattle.branch_exchange.specs.declared.exchange_end.ExchangeEnd.TheVariants a
 use Rattle.branch_exchange.specs.declared.exchange_end.Loss.{Loss}
 use Rattle.gateway_model.specs.Queue.{IsPrefixOf}
 use Rattle.gateway_theory.specs.Task.{HandedJob}
-use Rattle.loop_model.specs.Streams.{ClosedValue, closed_value}
-use Rattle.loop_model.specs.Asking.{AskingValue, IsUntouched, StreamValue, peers_of, request_of, stream_value}
+use Rattle.loop_model.specs.Streams.{ShareValue, StreamValue, stream_value, turns_of}
+use Rattle.loop_model.specs.Whole.{IsSameStream}
+use Rattle.loop_model.specs.Asking.{AskingValue, IsUntouched, peers_of, request_of, streams_for}
+use Rattle.wires.specs.Turns.{Turn, ended_of, given_of, got_of}
 use Rattle.wires.specs.Wires.{is_to_read}
 use Rattle.wires.specs.declared.ready.Ready.{Ready}
 use Rattle.branch_asking.specs.Addresses.{AddressesValue, AreOf, once_found}
@@ -34,15 +36,19 @@ abbrev pub backend_value : StreamValue → Bool → Bool → Option (ℕ × Bool
 backend_value stream reads writes watched reported =
     record { stream = stream; reads = reads; writes = writes; watched = watched; reported = reported }
 
--- what is left to be written of its request and the reader of its reply, and all that was read from its stream and written to it; nothing,
--- while it has none
+-- the same stream, with more turns
+abbrev pub with_turns : List Turn → StreamValue → StreamValue
+with_turns turns s = stream_value s.peer s.before (s.turns ++ turns)
+
+-- of all turns of a stream those behind these shares
+abbrev pub own_turns : List ShareValue → List Turn → List Turn
+own_turns before turns = drop (length (turns_of before)) turns
+
+-- what is left to be written of its request and the reader of its reply, and its stream, if it has one
 pub record AttemptValue : Type 0 where
   pub exchange : ExchangeValue
-  pub given : List ℕ
-  pub got : List ℕ
-  -- the address that its stream leads to, if it has one, whether a read found its end, or failed, and whether it took or gave a byte
-  pub peer : Option SocketAddr
-  pub ended : Bool
+  pub stream : Option StreamValue
+  -- whether that took or gave a byte
   pub connected : Bool
   -- whether a read of it may bring something, and whether a write may be taken; by what token it is watched; and all that was reported
   pub reads : Bool
@@ -55,10 +61,7 @@ pub record AttemptValue : Type 0 where
 abbrev pub attempt_value : ExchangeValue → Option BackendValue → Bool → Option ℕ → AttemptValue
 attempt_value exchange backend connected until = record {
   exchange = exchange;
-  given = option_map_or (λ (b : BackendValue). b.stream.given) backend [];
-  got = option_map_or (λ (b : BackendValue). b.stream.got) backend [];
-  peer = option_map (λ (b : BackendValue). b.stream.peer) backend;
-  ended = option_map_or (λ (b : BackendValue). b.stream.ended) backend false;
+  stream = option_map (λ (b : BackendValue). b.stream) backend;
   connected = connected;
   reads = option_map_or (λ (b : BackendValue). b.reads) backend false;
   writes = option_map_or (λ (b : BackendValue). b.writes) backend false;
@@ -67,6 +70,17 @@ attempt_value exchange backend connected until = record {
   until = until;
 }
 
+-- what was read from that stream since the last share, and what was written to it, if there is one, and whether a read found its end, or
+-- failed
+abbrev pub given_by : Option StreamValue → List ℕ
+given_by stream = option_map_or (λ (s : StreamValue). given_of s.turns) stream []
+
+abbrev pub got_by : Option StreamValue → List ℕ
+got_by stream = option_map_or (λ (s : StreamValue). got_of s.turns) stream []
+
+abbrev pub ended_by : Option StreamValue → Bool
+ended_by stream = option_map_or (λ (s : StreamValue). ended_of s.turns) stream false
+
 -- that limit, until it took a byte
 abbrev pub until_of : AttemptValue → Option ℕ
 until_of x = if x.connected then None else x.until
@@ -74,23 +88,23 @@ until_of x = if x.connected then None else x.until
 -- this request is being written, or its reply, whose body may be framed so, is being read and is not whole yet; and no read found the end
 -- of its stream, or failed
 pub record Asks (framing : Framing) (request : List ℕ) (x : AttemptValue) : Type 0 where
-  pub sends : x.got ++ x.exchange.left ≡ request
-  pub reads : IsReading framing x.exchange.replies x.given
-  pub goes_on : x.ended ≡ false
+  pub sends : got_by x.stream ++ x.exchange.left ≡ request
+  pub reads : IsReading framing x.exchange.replies (given_by x.stream)
+  pub goes_on : ended_by x.stream ≡ false
 
 -- It has ended so: with a reply only if the request was written whole, and what was read begins with that; and as lost only if the request
 -- was not, or what was read begins with none. In any case the first bytes of the request were written, and no others.
 pub record HasEnded (framing : Framing) (request : List ℕ) (end : ExchangeEnd) (x : AttemptValue) : Type 0 where
-  pub prefix : IsPrefixOf x.got request
-  pub whole : (reply : HttpReply) → end ≡ ends.Reply reply → (x.got ≡ request) × BeginsWithReply framing x.given reply
-  pub unanswered : (loss : Loss) → end ≡ ends.Lost loss → x.got ≡ request → HasNoReply framing x.given
+  pub prefix : IsPrefixOf (got_by x.stream) request
+  pub whole : (reply : HttpReply) → end ≡ ends.Reply reply → (got_by x.stream ≡ request) × BeginsWithReply framing (given_by x.stream) reply
+  pub unanswered : (loss : Loss) → end ≡ ends.Lost loss → got_by x.stream ≡ request → HasNoReply framing (given_by x.stream)
 
 -- the report became known of its stream, if it has one
 abbrev pub noted_attempt : Ready → AttemptValue → AttemptValue
 noted_attempt ready x = record x {
-  reported = if is_some x.peer then x.reported ++ ready ∷ [] else x.reported;
-  reads = is_some x.peer && (x.reads || is_to_read ready);
-  writes = is_some x.peer && (x.writes || ready.writable);
+  reported = if is_some x.stream then x.reported ++ ready ∷ [] else x.reported;
+  reads = is_some x.stream && (x.reads || is_to_read ready);
+  writes = is_some x.stream && (x.writes || ready.writable);
 }
 
 -- its stream is watched so from now on; or has to take a byte until then
@@ -102,19 +116,15 @@ timed_attempt until x = record x { until = until }
 
 -- nothing was written or read
 abbrev pub IsUntouchedAttempt : AttemptValue → Type 0
-IsUntouchedAttempt x = (x.got ≡ []) × (x.given ≡ [])
+IsUntouchedAttempt x = (got_by x.stream ≡ []) × (given_by x.stream ≡ [])
 
--- while it has no stream, nothing was written
-abbrev pub IsUnsent : AttemptValue → Type 0
-IsUnsent x = x.peer ≡ None → x.got ≡ []
+-- more may have been done at its stream, and reported of it
+abbrev pub GrowsTo : Option StreamValue → Option StreamValue → Type 0
+GrowsTo None y = y ≡ None
+GrowsTo (Some s) y = (t : StreamValue) × (y ≡ Some t) × IsSameStream s t
 
--- this was its stream
-abbrev pub HadStream : StreamValue → AttemptValue → Type 0
-HadStream s x = (s.given ≡ x.given) × (s.got ≡ x.got) × (x.peer ≡ Some s.peer) × (s.ended ≡ x.ended)
-
--- more may have been read from its stream, written to it, and reported of it
 abbrev pub HasGrown : AttemptValue → AttemptValue → Type 0
-HasGrown x y = IsPrefixOf x.given y.given × IsPrefixOf x.got y.got × (y.peer ≡ x.peer) × IsPrefixOf x.reported y.reported
+HasGrown x y = GrowsTo x.stream y.stream × IsPrefixOf x.reported y.reported
 
 -- it goes on; or its address accepts no connection; or it has ended so
 abbrev pub StepsTo : Framing → List ℕ → Step → AttemptValue → Type 0
@@ -155,9 +165,7 @@ asked_for x = record {
   known = x.addresses.known;
   found = x.addresses.found;
   tried = x.tried;
-  peer = x.attempt.peer;
-  given = x.attempt.given;
-  got = x.attempt.got;
+  stream = x.attempt.stream;
   reads = x.attempt.reads;
   writes = x.attempt.writes;
   watched = x.attempt.watched;
@@ -166,17 +174,9 @@ asked_for x = record {
   over = is_some x.end;
 }
 
--- the stream that it goes over, if there is one, as it is once it is closed
-abbrev pub closed_now : AttemptValue → List ClosedValue
-closed_now x = option_map_or (λ (peer : SocketAddr). closed_value (Some peer) x.given x.got ∷ []) x.peer []
-
--- .. as it is
-abbrev pub stream_of : AttemptValue → List StreamValue
-stream_of x = option_map_or (λ (peer : SocketAddr). stream_value peer x.given x.got x.ended ∷ []) x.peer []
-
 -- where it goes over another stream from now on, the one before is among those that were given up; unless it ended, or its stream took a byte
 abbrev pub NotesStream : Bool → AskingState → AskingState → Type 0
-NotesStream true x y = x.end ≡ None → x.attempt.connected ≡ false → y.tried ≡ x.tried ++ stream_of x.attempt
+NotesStream true x y = x.end ≡ None → x.attempt.connected ≡ false → y.tried ≡ x.tried ++ option_to_list x.attempt.stream
 NotesStream false x y = (y.attempt ≡ x.attempt) × (y.tried ≡ x.tried)
 
 -- these addresses were found for the name, and are its own if that is the address of its job
@@ -184,11 +184,11 @@ abbrev pub Finds : List ℕ → List SocketAddr → AskingState → AskingState 
 Finds name more x y =
     (x.job.job.address ≡ name → y ≡ record x { addresses = once_found more x.addresses }) × ((x.job.job.address ≡ name → ⊥) → y ≡ x)
 
--- nothing was read from the streams that were given up, or written to them, or written without one; its streams lead to the addresses of
--- its job, and so will others; and it asks for its job, or ended so
+-- no job went over its streams before; nothing was read from those that were given up, or written to them; its streams lead to the addresses
+-- of its job, and so will others; and it asks for its job, or ended so
 pub record HasBegun (x : AskingState) : Type 0 where
-  pub unsent : IsUnsent x.attempt
-  pub given : AreOf x.job.job.address (peers_of x.tried x.attempt.peer) x.addresses
+  pub new : All (λ (s : StreamValue). s.before ≡ []) (streams_for (asked_for x))
+  pub given : AreOf x.job.job.address (peers_of (streams_for (asked_for x))) x.addresses
   pub untouched : All IsUntouched x.tried
   pub asks : x.end ≡ None → Asks x.framing (request_of x.job.job) x.attempt
   pub ended : (end : ExchangeEnd) → x.end ≡ Some end → HasEnded x.framing (request_of x.job.job) end x.attempt

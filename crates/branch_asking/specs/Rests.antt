@@ -1,6 +1,6 @@
 -- Whether nothing is left to be done for a job that is asked for.
 use Rattle.std.specs.Prelude.{Bool, true, false, ◌&&◌, ◌||◌, not, nat_le, if◌then◌else◌, List, [], ◌∷◌, ℕ, length, is_some, Option, Some, None}
-use Rattle.loop_model.specs.Asking.{AskingValue, request_of}
+use Rattle.loop_model.specs.Asking.{AskingValue, got_for, request_of}
 use Rattle.branch_asking.specs.Asking.{AskingState, AttemptValue, asked_for}
 
 abbrev pub is_nil : List ℕ → Bool
@@ -15,7 +15,7 @@ rests_watched sent x (Some w) = (not x.reads || not x.connected) && (sent || (w.
 
 -- .. while it has one; nothing is to be read or written else
 abbrev pub rests_by : Bool → AttemptValue → Bool
-rests_by sent x = if is_some x.peer then rests_watched sent x x.watched else not x.reads && not x.writes
+rests_by sent x = if is_some x.stream then rests_watched sent x x.watched else not x.reads && not x.writes
 
 -- where the request was sent if nothing is left of it
 abbrev pub rests_over : AttemptValue → Bool
@@ -23,7 +23,7 @@ rests_over x = rests_by (is_nil x.exchange.left) x
 
 -- as many bytes were written as its request has
 abbrev pub is_sent : AskingValue → Bool
-is_sent x = nat_le (length (request_of x.job)) (length x.got)
+is_sent x = nat_le (length (request_of x.job)) (length (got_for x))
 
 -- it has not ended, and its attempt rests
 abbrev pub rests_asked : AskingState → Bool

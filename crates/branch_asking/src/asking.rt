@@ -5,12 +5,10 @@ ghost use Rattle.branch_causes.specs.Causes.{cause_of_end, status_of_end};
 ghost use Rattle.branch_causes.specs.declared.cause.Cause.TheVariants.{NotWanted};
 ghost use Rattle.branch_exchange.specs.Outcomes.{asked_of, outcome_of_asked};
 ghost use Rattle.branch_asking.specs.Addresses.{HasParsed, next_of};
-ghost use Rattle.branch_asking.specs.Streams.{Connects, HasStreamsOf};
-ghost use Rattle.branch_asking.specs.Asking.{Finds, NotesStream, asked_for, noted_attempt, timed_attempt, until_of, watched_attempt};
+ghost use Rattle.branch_asking.specs.Streams.{Connects, HasStreamsOf, left_by};
+ghost use Rattle.branch_asking.specs.Asking.{Finds, NotesStream, asked_for, got_by, noted_attempt, timed_attempt, until_of, watched_attempt};
 ghost use Rattle.branch_asking.specs.Rests.{rests_asked};
-ghost use Rattle.loop_model.specs.Accounts.{stream_now};
 ghost use Rattle.loop_model.specs.Asking.{BeginsRequest, IsFair, ended_value, request_of};
-ghost use Rattle.loop_model.specs.Streams.{closed_value};
 ghost use Rattle.loop_model.specs.Whole.{AsksOn};
 
 use crate::addresses::Addresses;
@@ -79,7 +77,7 @@ impl<W: Wire> Asking<W> {
         ensures framing { result.framing ≡ framing }
         ensures job { result.job ≡ job }
         ensures found { result.addresses.found ≡ [] }
-        ensures fresh { (result.tried ≡ []) × (result.attempt.peer ≡ None) }
+        ensures fresh { (result.tried ≡ []) × (result.attempt.stream ≡ None) }
         ensures over { IfSome result.end (λ end. end ≡ ExchangeEnd.NoMemory) }
     {
         let (request, end) = match request_of(alloc, &job) {
@@ -148,7 +146,7 @@ impl<W: Wire> Asking<W> {
 
     /// Whether it goes over a stream. One that does not has no address yet.
     pub fn has_stream(&self) -> bool
-        ensures { result ≡ is_some self.now.attempt.peer }
+        ensures { result ≡ is_some self.now.attempt.stream }
     {
         self.attempt.has_stream()
     }
@@ -175,7 +173,7 @@ impl<W: Wire> Asking<W> {
     /// has not taken a byte. It does nothing.
     pub fn begun_law(&self)
         ensures begun { BeginsRequest (asked_for self.now) }
-        ensures untouched { self.now.attempt.connected ≡ false → self.now.attempt.got ≡ [] }
+        ensures untouched { self.now.attempt.connected ≡ false → got_by self.now.attempt.stream ≡ [] }
     {
         self.attempt.unsent_law();
     }
@@ -331,12 +329,15 @@ impl<W: Wire + Drop> Asking<W> {
         true
     }
 
-    /// The job, what was noted of it, and its stream, if it has one.
-    pub fn into_parts(self) -> (Job, Errand, Option<W>)
+    /// The job, what was noted of it, and its stream, if it has one, of which the job's share has ended with this outcome.
+    pub fn into_parts(self, outcome: &Option<Outcome>) -> (Job, Errand, Option<Backend<W>>)
         ensures job { result.0 ≡ self.job }
-        ensures stream { map (λ w. closed_value (W.peer w) (W.given w) (W.got w)) (option_to_list result.2) ≡ stream_now (asked_for self) }
+        ensures stream { map (λ b. b.stream) (option_to_list result.2) ≡ left_by (asked_for self) outcome.now }
     {
-        let stream = self.attempt.into_wire();
+        let mut stream = self.attempt.into_stream();
+        if let Some(stream) = &mut stream {
+            stream.end_share(&self.job, outcome);
+        }
         (self.job, self.errand, stream)
     }
 }

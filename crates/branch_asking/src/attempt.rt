@@ -1,7 +1,6 @@
-ghost use Rattle.std.specs.Prelude.{◌≡◌, [], None, Some, IfSome, IsFalse, false, is_some, map, option_to_list};
+ghost use Rattle.std.specs.Prelude.{◌≡◌, [], None, Some, IfSome, IsFalse, false, is_some, option_map};
 ghost use Rattle.loop_model.specs.Asking.{IsUntouched};
-ghost use Rattle.loop_model.specs.Streams.{closed_value};
-ghost use Rattle.branch_asking.specs.Asking.{closed_now, Asks, HadStream, HasGrown, IsUnsent, IsUntouchedAttempt, Steps, attempt_value, noted_attempt, until_of};
+ghost use Rattle.branch_asking.specs.Asking.{Asks, HasGrown, IsUntouchedAttempt, Steps, attempt_value, got_by, noted_attempt, until_of};
 ghost use Rattle.branch_asking.specs.Rests.{rests_over};
 
 use crate::backend::Backend;
@@ -59,7 +58,7 @@ impl<W: Wire> Attempt<W> {
     pub(crate) fn new(alloc: Global, framing: Framing, request: Bytes) -> Attempt<W>
         ensures asks { Asks framing request result }
         ensures untouched { IsUntouchedAttempt result }
-        ensures alone { result.peer ≡ None }
+        ensures alone { result.stream ≡ None }
     {
         Attempt {
             exchange: Exchange::new(alloc, framing, request),
@@ -92,7 +91,7 @@ impl<W: Wire> Attempt<W> {
 
     /// Whether it has a stream.
     pub(crate) fn has_stream(&self) -> bool
-        ensures { result ≡ is_some self.now.peer }
+        ensures { result ≡ is_some self.now.stream }
     {
         self.stream.is_some()
     }
@@ -124,11 +123,9 @@ impl<W: Wire> Attempt<W> {
         self.until = until;
     }
 
-    /// While it has no stream, nothing was written; and nothing was while its stream has not taken a byte. It does
-    /// nothing.
+    /// Nothing was written while its stream has not taken a byte. It does nothing.
     pub(crate) fn unsent_law(&self)
-        ensures unsent { IsUnsent self.now }
-        ensures untouched { self.now.connected ≡ false → self.now.got ≡ [] }
+        ensures untouched { self.now.connected ≡ false → got_by self.now.stream ≡ [] }
     {
         let _ = &self.stream;
     }
@@ -183,12 +180,20 @@ impl<W: Wire> Attempt<W> {
         if !self.exchange.is_sent() && (self.may_write() || !self.is_connected) {
             return self.send();
         }
+        if !self.may_read() {
+            return Step::Waits;
+        }
         self.receive()
     }
 
     /// Whether its stream may take a write.
     fn may_write(&self) -> bool {
         self.stream.as_ref().is_some_and(Backend::may_write)
+    }
+
+    /// Whether a read of its stream may bring something.
+    fn may_read(&self) -> bool {
+        self.stream.as_ref().is_some_and(Backend::may_read)
     }
 
     /// Writes once of what is left of the request.
@@ -217,6 +222,8 @@ impl<W: Wire> Attempt<W> {
     }
 
     /// Reads once of the reply.
+    // made apart from its use: in one function its piece was cleared in each step, read or not
+    #[inline(never)]
     fn receive(&mut self) -> Step
         ensures steps { Steps self.old result self.new }
         ensures grows { HasGrown self.old self.new }
@@ -224,9 +231,6 @@ impl<W: Wire> Attempt<W> {
         let Some(stream) = &mut self.stream else {
             return Step::Waits;
         };
-        if !stream.may_read() {
-            return Step::Waits;
-        }
         let mut piece = [0u8; PIECE];
         match stream.read(&mut piece) {
             Got::Bytes(count) => {
@@ -246,10 +250,10 @@ impl<W: Wire> Attempt<W> {
 
 impl<W: Wire + Drop> Attempt<W> {
     /// Its stream, once its address is known.
-    pub(crate) fn into_wire(self) -> Option<W>
-        ensures { map (λ w. closed_value (W.peer w) (W.given w) (W.got w)) (option_to_list result) ≡ closed_now self }
+    pub(crate) fn into_stream(self) -> Option<Backend<W>>
+        ensures { option_map (λ b. b.stream) result ≡ self.stream }
     {
-        Some(self.stream?.into_wire())
+        self.stream
     }
 
     /// It goes over this stream from now on, of which nothing was read or written. Answers the one before, if there
@@ -257,8 +261,7 @@ impl<W: Wire + Drop> Attempt<W> {
     pub(crate) fn connect(&mut self, stream: Backend<W>) -> Option<Backend<W>>
         requires { IsUntouched stream.stream }
         ensures fresh { self.new ≡ attempt_value self.old.exchange (Some stream) false None }
-        ensures before { IfSome result (λ before. HadStream before.stream self.old) }
-        ensures first { result ≡ None → self.old.peer ≡ None }
+        ensures before { option_map (λ b. b.stream) result ≡ self.old.stream }
         ensures untouched { result ≡ None → IsUntouchedAttempt self.old }
     {
         self.is_connected = false;

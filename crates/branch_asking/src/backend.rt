@@ -1,33 +1,38 @@
-ghost use Rattle.std.specs.Prelude.{◌≡◌, ◌||◌, ◌++◌, ◌∷◌, [], Some, false};
-ghost use Rattle.branch_asking.specs.Asking.{backend_value};
-ghost use Rattle.loop_model.specs.Accounts.{closed_stream};
-ghost use Rattle.loop_model.specs.Asking.{stream_value};
-ghost use Rattle.loop_model.specs.Streams.{closed_value};
-ghost use Rattle.wires.specs.Wires.{Ends, Gives, Takes, is_to_read};
+ghost use Rattle.std.specs.Prelude.{◌≡◌, ◌||◌, ◌++◌, ◌∷◌, [], Some};
+ghost use Rattle.branch_asking.specs.Asking.{backend_value, with_turns};
+ghost use Rattle.loop_model.specs.Streams.{closed_stream, closed_turns, share_value, stream_value};
+ghost use Rattle.wires.specs.Turns.{BringsWithin, TakesWithin, turns_of_read, turns_of_write};
+ghost use Rattle.wires.specs.Wires.{is_to_read};
 
 use crate::network::Network;
+use crate::shares::{Share, Shares};
+use connect_codec::Outcome;
+use gateway_core::Job;
 use std::marker::Model;
 use std::net::SocketAddr;
 use wires::{Got, Outbox, PIECE, Ready, Sent, Wire};
 
-/// A stream to a backend. Contracts see the address that it was connected to, what was read from it and written to it,
-/// whether a read found its end, or failed, and what may be done.
+/// A stream to a backend. Contracts see the address that it was connected to, the shares that jobs had of it, the turns
+/// since the last of these ended, and what may be done.
 #[derive(Drop)]
-pub(crate) struct Backend<W: Wire> {
+pub struct Backend<W: Wire> {
     wire: W,
     peer: SocketAddr,
+    // for proofs: the shares that jobs had of it
+    before: Shares,
 }
 
 impl<W: Wire> Model for Backend<W> {
     ghost use Rattle.std.specs.Prelude.{◌≡◌, Some};
-    ghost use Rattle.loop_model.specs.Asking.{stream_value};
-    ghost use Rattle.branch_asking.specs.Asking.{BackendValue, backend_value};
+    ghost use Rattle.branch_asking.specs.Asking.{BackendValue, backend_value, own_turns};
+    ghost use Rattle.gateway_model.specs.Queue.{IsPrefixOf};
+    ghost use Rattle.loop_model.specs.Streams.{stream_value, turns_of};
 
     ghost Value = { BackendValue };
 
-    ghost view = { λ b. backend_value (stream_value b.peer (W.given b.wire) (W.got b.wire) (W.ended b.wire)) (W.reads b.wire) (W.writes b.wire) (W.watched b.wire) (W.reported b.wire) };
+    ghost view = { λ b. backend_value (stream_value b.peer b.before.items (own_turns b.before.items (W.turns b.wire))) (W.reads b.wire) (W.writes b.wire) (W.watched b.wire) (W.reported b.wire) };
 
-    ghost invariant = { λ b. W.peer b.wire ≡ Some b.peer };
+    ghost invariant = { λ b. (W.peer b.wire ≡ Some b.peer) × IsPrefixOf (turns_of b.before.items) (W.turns b.wire) };
 }
 
 impl<W: Wire> Backend<W> {
@@ -37,12 +42,13 @@ impl<W: Wire> Backend<W> {
         address: SocketAddr,
         length: usize,
     ) -> Backend<W>
-        ensures fresh { result.stream ≡ stream_value address [] [] false }
+        ensures fresh { result.stream ≡ stream_value address [] [] }
         ensures made { N.value net.new ≡ record (N.value net.old) { made = (N.value net.old).made ++ address ∷ [] } }
     {
         Backend {
             wire: net.connect(address, length),
             peer: address,
+            before: Shares::new(),
         }
     }
 
@@ -82,18 +88,34 @@ impl<W: Wire> Backend<W> {
         self.wire.watched()
     }
 
-    pub(crate) fn into_wire(self) -> W
-        ensures { closed_value (W.peer result) (W.given result) (W.got result) ≡ closed_stream self.stream }
+    /// The job's share of it has ended with this outcome.
+    pub(crate) fn end_share(&mut self, job: &Job, outcome: &Option<Outcome>)
+        ensures { self.new.stream ≡ stream_value self.old.stream.peer
+            (self.old.stream.before ++ share_value job.now.job self.old.stream.turns outcome.now ∷ []) [] }
     {
-        let Backend { wire, peer: _ } = self;
+        self.before = self.before.and(&Share {
+            stream: &*self,
+            job,
+            outcome,
+        });
+    }
+
+    /// Its wire, which may be closed.
+    pub fn into_wire(self) -> W
+        ensures { closed_turns (W.peer result) (W.turns result) ≡ closed_stream self.stream }
+    {
+        let Backend {
+            wire,
+            peer: _,
+            before: _,
+        } = self;
         wire
     }
 
     /// Reads once, into the first places of the piece.
     pub(crate) fn read(&mut self, piece: &mut [u8; PIECE]) -> Got
-        ensures given { Gives self.old.stream.given self.new.stream.given piece.new result }
-        ensures ended { Ends self.old.stream.ended self.new.stream.ended result }
-        ensures rest { self.new.stream ≡ stream_value self.old.stream.peer self.new.stream.given self.old.stream.got self.new.stream.ended }
+        ensures turns { self.new.stream ≡ with_turns (turns_of_read piece.new result) self.old.stream }
+        ensures within { BringsWithin piece.new result }
         ensures reported { self.new.reported ≡ self.old.reported }
     {
         self.wire.read(piece)
@@ -101,8 +123,8 @@ impl<W: Wire> Backend<W> {
 
     /// Writes once of what waits, from its first byte on.
     pub(crate) fn write(&mut self, outbox: &Outbox) -> Sent
-        ensures got { Takes self.old.stream.got self.new.stream.got outbox.now result }
-        ensures rest { self.new.stream ≡ stream_value self.old.stream.peer self.old.stream.given self.new.stream.got self.old.stream.ended }
+        ensures turns { self.new.stream ≡ with_turns (turns_of_write outbox.now result) self.old.stream }
+        ensures within { TakesWithin outbox.now result }
         ensures reported { self.new.reported ≡ self.old.reported }
     {
         self.wire.write(outbox)

@@ -10,9 +10,11 @@ mod branch_end;
 mod errand;
 mod names_asked;
 mod network;
+mod shares;
 
 pub use asking::{Asking, Progress};
 pub use attempt::Attempt;
+pub use backend::Backend;
 pub use branch_end::BranchEnd;
 pub use errand::Errand;
 pub use names_asked::NamesAsked;

@@ -1,5 +1,5 @@
 ghost use Rattle.loop_model.specs.Accounts.{NetworkValue};
-ghost use Rattle.loop_model.specs.Streams.{closed_value};
+ghost use Rattle.loop_model.specs.Streams.{closed_turns};
 ghost use Rattle.std.specs.Prelude.{◌≡◌, ◌∷◌, ◌++◌, [], false, true, None, Some, IsFalse, IsTrue};
 
 use crate::branch_end::BranchEnd;
@@ -21,9 +21,7 @@ pub trait Network<W: Wire> {
     fn connect(&mut self, address: SocketAddr, length: usize) -> W
         ensures made { value self.new ≡ record (value self.old) { made = (value self.old).made ++ address ∷ [] } }
         ensures peer { W.peer result ≡ Some address }
-        ensures given { W.given result ≡ [] }
-        ensures got { W.got result ≡ [] }
-        ensures ended { W.ended result ≡ false }
+        ensures turns { W.turns result ≡ [] }
         ensures may { (W.reads result ≡ false) × (W.writes result ≡ true) }
         ensures watched { W.watched result ≡ None }
         ensures reported { W.reported result ≡ [] };
@@ -31,7 +29,7 @@ pub trait Network<W: Wire> {
     /// Closes the stream.
     fn close(&mut self, wire: W)
         ensures closed { value self.new ≡ record (value self.old) {
-          closed = (value self.old).closed ++ closed_value (W.peer wire) (W.given wire) (W.got wire) ∷ [];
+          closed = (value self.old).closed ++ closed_turns (W.peer wire) (W.turns wire) ∷ [];
         } };
 
     /// Watches the wire: whenever bytes come, its end, or, with `writes`, room to write, a `Ready` of this token tells
@@ -40,9 +38,7 @@ pub trait Network<W: Wire> {
         ensures same { value self.new ≡ value self.old }
         ensures watched { IsTrue result → W.watched wire.new ≡ Some (token, writes) }
         ensures peer { W.peer wire.new ≡ W.peer wire.old }
-        ensures given { W.given wire.new ≡ W.given wire.old }
-        ensures got { W.got wire.new ≡ W.got wire.old }
-        ensures ended { W.ended wire.new ≡ W.ended wire.old }
+        ensures turns { W.turns wire.new ≡ W.turns wire.old }
         ensures may { (W.reads wire.new ≡ W.reads wire.old) × (W.writes wire.new ≡ W.writes wire.old) }
         ensures reported { W.reported wire.new ≡ W.reported wire.old };
 

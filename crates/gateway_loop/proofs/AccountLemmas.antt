@@ -1,13 +1,13 @@
 -- How each step changes what a loop's lists say of its streams.
-use Rattle.gateway_loop.proofs.Words.{◌≡◌, ℕ, ◌+◌, Bool, cond, List, [], ◌∷◌, ◌++◌, length, map, Option, None, Some, refl, sym, ap, ◌∙◌, subst, arith, append_assoc, append-nil, ⊎_elim, count_by, sum_by, option_map, slice_index_or, option_map_or, map-append, sum_by-append, sum_by-cons, Outcome, SocketAddr, AskingState, AskingValue, ClientValue, EndedValue, LoopValue, StreamValue, asked_for, ended_value, whole_loop, Beside, FoundValue, beside, WholeLoop, Framing, Contains}
+use Rattle.gateway_loop.proofs.Words.{◌≡◌, ℕ, ◌+◌, Bool, cond, List, [], ◌∷◌, ◌++◌, length, map, Option, None, Some, refl, sym, ap, ◌∙◌, subst, arith, append_assoc, append-nil, ⊎_elim, count_by, sum_by, option_map, slice_index_or, option_map_or, map-append, sum_by-append, sum_by-cons, Outcome, SocketAddr, AskingState, AskingValue, ClientValue, EndedValue, LoopValue, StreamValue, asked_for, ended_value, whole_loop, Beside, FoundValue, beside, WholeLoop, Framing, Contains, option_to_list}
 use Rattle.gateway_loop.specs.Loop.{StartsLoop}
 use Rattle.std.proofs.lemmas.List.{length-append}
-use Rattle.loop_model.specs.Accounts.{Account, AccountsFor, AccountsOn, NetworkValue, closed_client, closed_stream, count_dealt, count_left, count_made, first_account, stream_now, streams_before, with_more}
-use Rattle.loop_model.specs.Asking.{peers_of}
+use Rattle.loop_model.specs.Accounts.{Account, AccountsFor, AccountsOn, NetworkValue, closed_client, count_dealt, count_left, count_made, first_account, streams_before, with_more}
+use Rattle.loop_model.specs.Asking.{peers_of, streams_for}
 use Rattle.loop_model.specs.Found.{Asked, Found, IsAwaited, LookUp, asked_in, found_in}
 use Rattle.loop_model.specs.Standing.{count_clients}
-use Rattle.loop_model.specs.Streams.{ClosedValue}
-use Rattle.branch_asking.specs.Streams.{Connects, GoesOver, HasStreamsOf}
+use Rattle.loop_model.specs.Streams.{ClosedValue, StreamValue, closed_stream, stream_value}
+use Rattle.branch_asking.specs.Streams.{Connects, GoesOver, HasStreamsOf, left_by, stream_now}
 use Rattle.gateway_loop.specs.Clients.{HasCome, HasGone, IsStill, IsTold, IsTurnedAway, LetsGo, TakesIn}
 use Rattle.gateway_loop.specs.Closing.{ClosesFrom}
 use Rattle.gateway_loop.specs.Names.{AreSame, AsksFor, IsAskedFor, Leaves}
@@ -189,7 +189,7 @@ abbrev show : Option AskingState → Option AskingValue
 show o = option_map asked_for o
 
 abbrev made_of : (SocketAddr → Bool) → Option AskingValue → ℕ
-made_of p o = option_map_or (λ (x : AskingValue). count_by p (peers_of x.tried x.peer)) o 0
+made_of p o = option_map_or (λ (x : AskingValue). count_by p (peers_of (streams_for x))) o 0
 
 abbrev left_of : (ClosedValue → Bool) → Option AskingValue → ℕ
 left_of p o = option_map_or (λ (x : AskingValue). count_by p (streams_before x)) o 0
@@ -205,12 +205,26 @@ sum_of_put f none old new i o n was put =
     let later = sum_map f show new in
     omega (arith, changed, before, after, shown, later)
 
+-- the addresses of all its streams
+abbrev peer_of : StreamValue → SocketAddr
+peer_of v = v.peer
+
+peers_are : (x : AskingValue) → peers_of (streams_for x) ≡ peers_of x.tried ++ peers_of (option_to_list x.stream)
+peers_are x = map-append peer_of x.tried (option_to_list x.stream)
+
 -- it goes over the same streams
 same_made : (p : SocketAddr → Bool) (x y : AskingValue) → HasStreamsOf x y → made_of p (Some y) ≡ made_of p (Some x)
-same_made p x y s = ap (λ (t : List StreamValue). count_by p (peers_of t y.peer)) s.tried ∙ ap (λ (o : Option SocketAddr). count_by p (peers_of x.tried o)) s.peer
+same_made p x y s =
+    ap (count_by p) (peers_are y ∙ ap (λ (t : List StreamValue). peers_of t ++ peers_of (option_to_list y.stream)) s.tried
+    ∙ ap (λ (l : List SocketAddr). peers_of x.tried ++ l) s.peer ∙ sym (peers_are x))
 
 same_left : (p : ClosedValue → Bool) (x y : AskingValue) → HasStreamsOf x y → left_of p (Some y) ≡ left_of p (Some x)
 same_left p x y s = ap (λ (t : List StreamValue). count_by p (map (λ (v : StreamValue). closed_stream v) t)) s.tried
+
+-- a stream that is left leads where it led
+left_peers : (x : AskingValue) (o : Option Outcome) (s : Option StreamValue) → x.stream ≡ s → peers_of (left_by x o) ≡ peers_of (option_to_list x.stream)
+left_peers x o None is = rw is refl
+left_peers x o (Some s) is = rw is refl
 
 module _ (framing : Framing) (l m : LoopValue) (old new : List (Option AskingState)) (ended : List (AskingState × Option Outcome)) (rest : Beside) (i : ℕ) where
   -- one went on over the same streams
@@ -243,17 +257,21 @@ module _ (framing : Framing) (l m : LoopValue) (old new : List (Option AskingSta
         let before = f.made p in
         let changed = sum_of_put (made_of p) refl old new i (Some x) (Some y) was put in
         let net = ap (λ (v : NetworkValue). count_by p v.made) s.net ∙ count_append p a.made (address ∷ []) in
+        let before_it = (asked_for x).tried ++ option_to_list (asked_for x).stream in
         let peers : made_of p (Some (asked_for y)) ≡ made_of p (Some (asked_for x)) + count_by p (address ∷ []) =
-        ap (λ (o : Option SocketAddr). count_by p (peers_of (asked_for y).tried o)) s.peer
-        ∙ ap (λ (t : List SocketAddr). count_by p (t ++ address ∷ [])) s.peers
-        ∙ count_append p (peers_of (asked_for x).tried (asked_for x).peer) (address ∷ []) in
+        ap (λ (t : List StreamValue). count_by p (peers_of (t ++ option_to_list (asked_for y).stream))) s.tried
+        ∙ ap (λ (o : Option StreamValue). count_by p (peers_of (before_it ++ option_to_list o))) s.stream
+        ∙ ap (count_by p) (map-append peer_of before_it (stream_value address [] [] ∷ []))
+        ∙ count_append p (peers_of before_it) (address ∷ []) in
         omega (arith, before, changed, net, peers);
     closed = λ p.
         let before = f.closed p in
         let changed = sum_of_put (left_of p) refl old new i (Some x) (Some y) was put in
         let net = ap (λ (v : NetworkValue). count_by p v.closed) s.net ∙ count_append p a.closed (stream_now (asked_for x)) in
         let left : left_of p (Some (asked_for y)) ≡ left_of p (Some (asked_for x)) + count_by p (stream_now (asked_for x)) =
-        ap (count_by p) s.left ∙ count_append p (streams_before (asked_for x)) (stream_now (asked_for x)) in
+        ap (λ (t : List StreamValue). count_by p (map closed_stream t)) s.tried
+        ∙ ap (count_by p) (map-append closed_stream (asked_for x).tried (option_to_list (asked_for x).stream))
+        ∙ count_append p (streams_before (asked_for x)) (stream_now (asked_for x)) in
         omega (arith, before, changed, net, left);
     dealt = f.dealt;
     asked = ap (λ (v : NetworkValue). v.asked) s.net ∙ f.asked;
@@ -271,7 +289,7 @@ module _ (framing : Framing) (l m : LoopValue) (old new : List (Option AskingSta
       s
 
   -- one began
-  pub begin_accounts : (a : NetworkValue) (y : AskingState) → IsStill l m → slice_index_or old i None ≡ None → Put old new i (Some y) → (asked_for y).tried ≡ [] → (asked_for y).peer ≡ None
+  pub begin_accounts : (a : NetworkValue) (y : AskingState) → IsStill l m → slice_index_or old i None ≡ None → Put old new i (Some y) → (asked_for y).tried ≡ [] → (asked_for y).stream ≡ None
       → (u : Account) → AccountsFor u a (whole_loop framing l old ended rest) → AccountsFor u a (whole_loop framing m new ended rest)
   begin_accounts a y still vacant put none alone u f =
       let g = still_accounts framing old ended rest l m a still u f in record {
@@ -279,7 +297,7 @@ module _ (framing : Framing) (l m : LoopValue) (old new : List (Option AskingSta
         made = λ p.
             let before = g.made p in
             let changed = sum_of_put (made_of p) refl old new i None (Some y) vacant put in
-            let fresh : made_of p (Some (asked_for y)) ≡ 0 = ap (λ (t : List StreamValue). count_by p (peers_of t (asked_for y).peer)) none ∙ ap (λ (o : Option SocketAddr). count_by p (peers_of [] o)) alone in
+            let fresh : made_of p (Some (asked_for y)) ≡ 0 = ap (λ (t : List StreamValue). count_by p (peers_of (t ++ option_to_list (asked_for y).stream))) none ∙ ap (λ (o : Option StreamValue). count_by p (peers_of (option_to_list o))) alone in
             omega (arith, before, changed, fresh);
         closed = λ p.
             let before = g.closed p in
@@ -293,35 +311,38 @@ module _ (framing : Framing) (l m : LoopValue) (old new : List (Option AskingSta
       }
 
   -- one ended, and its stream is left
-  pub end_accounts : (a b : NetworkValue) (x y : AskingState) (o : Option Outcome) (ended' : List (AskingState × Option Outcome)) (closing' streams : List ClosedValue) → IsStill l m → slice_index_or old i None ≡ Some x → Put old new i None
-      → HasStreamsOf (asked_for x) (asked_for y) → ended' ≡ ended ++ (y, o) ∷ [] → streams ≡ stream_now (asked_for y) → ClosesFrom a b (streams ++ rest.closing) closing'
-      → (u : Account) → AccountsFor u a (whole_loop framing l old ended rest) → AccountsFor u b (whole_loop framing m new ended' (beside closing' rest.looked_up rest.waits))
-  end_accounts a b x y o ended' closing' streams still was put same more stream closes u f =
+  pub end_accounts : (a b : NetworkValue) (x y : AskingState) (o : Option Outcome) (ended' : List (AskingState × Option Outcome)) (left' : List StreamValue) (closing' : List ClosedValue) → IsStill l m → slice_index_or old i None ≡ Some x → Put old new i None
+      → HasStreamsOf (asked_for x) (asked_for y) → ended' ≡ ended ++ (y, o) ∷ [] → left' ≡ rest.left ++ left_by (asked_for y) o → ClosesFrom a b (map closed_stream (left_by (asked_for y) o) ++ rest.closing) closing'
+      → (u : Account) → AccountsFor u a (whole_loop framing l old ended rest) → AccountsFor u b (whole_loop framing m new ended' (beside left' closing' rest.looked_up rest.waits))
+  end_accounts a b x y o ended' left' closing' still was put same more leaves closes u f =
       let g = still_accounts framing old ended rest l m a still u f in
+      let own = left_by (asked_for y) o in
       let shown : AskingState × Option Outcome → EndedValue = λ (d : AskingState × Option Outcome). ended_value (asked_for d.0) d.1 in
       let ends : map shown ended' ≡ map shown ended ++ shown (y, o) ∷ [] = ap (map shown) more ∙ map-append shown ended ((y, o) ∷ []) in record {
         told = closes.told ∙ g.told;
         made = λ p.
-            let of_ended : EndedValue → ℕ = λ (e : EndedValue). count_by p (peers_of e.asking.tried e.asking.peer) in
+            let of_ended : EndedValue → ℕ = λ (e : EndedValue). count_by p (peers_of e.asking.tried) in
             let before = g.made p in
             let net = ap (count_by p) closes.made in
             let changed = sum_of_put (made_of p) refl old new i (Some x) None was put in
             let alike = same_made p (asked_for x) (asked_for y) same in
             let total = ap (sum_by of_ended) ends ∙ sum_by-append of_ended (map shown ended) (shown (y, o) ∷ []) in
             let last = sum_by-cons of_ended (shown (y, o)) [] in
-            omega (arith, before, net, changed, alike, total, last);
+            let both = ap (count_by p) (peers_are (asked_for y)) ∙ count_append p (peers_of (asked_for y).tried) (peers_of (option_to_list (asked_for y).stream)) in
+            let later = ap (λ (t : List StreamValue). count_by p (peers_of t)) leaves ∙ ap (count_by p) (map-append peer_of rest.left own) ∙ count_append p (peers_of rest.left) (peers_of own) in
+            let its = ap (count_by p) (left_peers (asked_for y) o (asked_for y).stream refl) in
+            omega (arith, before, net, changed, alike, total, last, both, later, its);
         closed = λ p.
-            let of_ended : EndedValue → ℕ = λ (e : EndedValue). count_by p (streams_before e.asking ++ stream_now e.asking) in
+            let of_ended : EndedValue → ℕ = λ (e : EndedValue). count_by p (streams_before e.asking) in
             let before = g.closed p in
             let net = closes.each p in
-            let parts = count_append p streams rest.closing in
-            let its = ap (count_by p) stream in
+            let parts = count_append p (map closed_stream own) rest.closing in
             let changed = sum_of_put (left_of p) refl old new i (Some x) None was put in
             let alike = same_left p (asked_for x) (asked_for y) same in
             let total = ap (sum_by of_ended) ends ∙ sum_by-append of_ended (map shown ended) (shown (y, o) ∷ []) in
             let last = sum_by-cons of_ended (shown (y, o)) [] in
-            let both = count_append p (streams_before (asked_for y)) (stream_now (asked_for y)) in
-            omega (arith, before, net, parts, its, changed, alike, total, last, both);
+            let later = ap (λ (t : List StreamValue). count_by p (map closed_stream t)) leaves ∙ ap (count_by p) (map-append closed_stream rest.left own) ∙ count_append p (map closed_stream rest.left) (map closed_stream own) in
+            omega (arith, before, net, parts, changed, alike, total, last, later);
         dealt = g.dealt;
         asked = closes.asked ∙ g.asked;
         found = g.found;
@@ -330,7 +351,7 @@ module _ (framing : Framing) (l m : LoopValue) (old new : List (Option AskingSta
 
 -- streams that waited were closed
 pub closes_accounts : (framing : Framing) (l : LoopValue) (asking : List (Option AskingState)) (ended : List (AskingState × Option Outcome)) (rest : Beside) (closing : List ClosedValue) (a b : NetworkValue) → ClosesFrom a b rest.closing closing
-    → (u : Account) → AccountsFor u a (whole_loop framing l asking ended rest) → AccountsFor u b (whole_loop framing l asking ended (beside closing rest.looked_up rest.waits))
+    → (u : Account) → AccountsFor u a (whole_loop framing l asking ended rest) → AccountsFor u b (whole_loop framing l asking ended (beside rest.left closing rest.looked_up rest.waits))
 closes_accounts framing l asking ended rest closing a b closes u f = record {
   told = closes.told ∙ f.told;
   made = λ p. ap (count_by p) closes.made ∙ f.made p;
@@ -347,7 +368,7 @@ closes_accounts framing l asking ended rest closing a b closes u f = record {
 -- a name was looked up, for which nobody waits any more
 pub found_accounts : (framing : Framing) (l : LoopValue) (asking : List (Option AskingState)) (ended : List (AskingState × Option Outcome)) (rest : Beside) (later : List FoundValue) (waits : List (List ℕ)) (one : FoundValue) (a : NetworkValue)
     → later ≡ rest.looked_up ++ one ∷ [] → Leaves one.name rest.waits waits
-    → AccountsOn 0 (one ∷ []) a a (whole_loop framing l asking ended rest) (whole_loop framing l asking ended (beside rest.closing later waits))
+    → AccountsOn 0 (one ∷ []) a a (whole_loop framing l asking ended rest) (whole_loop framing l asking ended (beside rest.left rest.closing later waits))
 found_accounts framing l asking ended rest later waits one a is left u f = (
   Found one ∷ [],
   refl,
@@ -368,7 +389,7 @@ module _ (framing : Framing) (l : LoopValue) (asking : List (Option AskingState)
   unasked = whole_loop framing l asking ended rest
 
   abbrev asked_for_name : WholeLoop
-  asked_for_name = whole_loop framing l asking ended (beside rest.closing rest.looked_up waits)
+  asked_for_name = whole_loop framing l asking ended (beside rest.left rest.closing rest.looked_up waits)
 
   none_asked : (b ≡ a) × AreSame rest.waits waits → AccountsOn 0 [] a b unasked asked_for_name
   none_asked (net, same) = done_alone unasked asked_for_name (λ u f. subst (λ (n : NetworkValue). AccountsFor u n asked_for_name) (sym net) record {
@@ -408,10 +429,10 @@ pub first_accounts : (w : WholeLoop) → StartsLoop w → (a : NetworkValue) →
 first_accounts w s a = record {
   told = sym (ap (λ (t : List ℕ). a.told ++ t) s.side.none_told ∙ append-nil a.told);
   made = λ p.
-      let none : count_made p w ≡ 0 = rw (s.none_asked, s.none_ended) refl in
+      let none : count_made p w ≡ 0 = rw (s.none_asked, s.none_ended, s.none_left) refl in
       omega (arith, none);
   closed = λ p.
-      let none : count_left p w ≡ 0 = rw (s.side.none_gone, s.side.none_unserved, s.none_asked, s.none_ended) refl in
+      let none : count_left p w ≡ 0 = rw (s.side.none_gone, s.side.none_unserved, s.none_asked, s.none_ended, s.none_left) refl in
       let waits : count_by p w.closing ≡ 0 = rw s.none_closing refl in
       omega (arith, none, waits);
   dealt = let none : count_dealt w.side ≡ 0 = rw (s.side.none_there, s.side.none_gone, s.side.none_unserved) refl in sym none;

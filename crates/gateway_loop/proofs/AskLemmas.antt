@@ -1,14 +1,17 @@
 -- What each step makes of the jobs that are asked for, and of those that ended.
-use Rattle.gateway_loop.proofs.Words.{AreFoundFor, AreOfName, Beside, Contains, Contains-append_left, All-weaker, FoundValue, addresses_value, beside, take, true, ◌≡◌, ◌≢◌, ◌⊎◌, ℕ, zero, suc, ◌+◌, Bool, false, cond, List, [], ◌∷◌, ◌++◌, All, map, Option, None, Some, refl, sym, ap, ◌∙◌, subst, arith, append_assoc, inl, inr, ⊎_elim, count_by, sum_by, option_map, slice_index_or, option_map_or, cases_eq, map-append, All-push, sum_by-append, sum_by-cons, Outcome, JobValue, IsPrefixOf, HandedJob, Slab, Updates, AskingValue, BeginsRequest, EndedValue, IsFair, StreamValue, ended_value, Account, AccountsFor, AccountsOn, Admits, ClosedValue, IsStill, NetworkValue, LoopValue, Continues, HasTicked, AsksFairly, AsksOn, ContinuesLoop, GivesUpStream, HasEndedSince, KeepsStream, WholeLoop, asked_at, count_asked, AskingState, asked_for, HandsNothing, Onward, Goes, AreFramed, IsFramed, whole_loop, Framing, SocketAddr, prefix-refl, prefix-trans}
+use Rattle.gateway_loop.proofs.Words.{◌≤◌, AreFoundFor, AreOfName, Beside, Contains, Contains-append_left, All-weaker, FoundValue, addresses_value, beside, take, true, ◌≡◌, ◌≢◌, ◌⊎◌, ℕ, zero, suc, ◌+◌, Bool, false, cond, List, [], ◌∷◌, ◌++◌, All, map, Option, None, Some, refl, sym, ap, ◌∙◌, subst, arith, append_assoc, inl, inr, ⊎_elim, count_by, sum_by, option_map, slice_index_or, option_map_or, cases_eq, map-append, All-push, sum_by-append, sum_by-cons, Outcome, JobValue, IsPrefixOf, HandedJob, Slab, Updates, AskingValue, BeginsRequest, EndedValue, IsFair, StreamValue, ended_value, Account, AccountsFor, AccountsOn, Admits, ClosedValue, IsStill, NetworkValue, LoopValue, Continues, HasTicked, AsksFairly, AsksOn, ContinuesLoop, GivesUpStream, HasEndedSince, KeepsStream, WholeLoop, asked_at, count_asked, AskingState, asked_for, HandsNothing, Onward, Goes, AreFramed, IsFramed, whole_loop, Framing, SocketAddr, prefix-refl, prefix-trans, peers_of, stream_value, length, All-nil, streams_for, option_to_list}
 use Rattle.std.proofs.lemmas.Bool.Decides.{nat_tests}
 use Rattle.std.proofs.lemmas.List.{append-nil}
 use Rattle.std.proofs.lemmas.Slice.Eq.{bytes_eq-Decides}
 use Rattle.std.specs.Prelude.{◌&&◌, if◌then◌else◌, not}
 use Rattle.std.specs.Str.{bytes_eq}
 use Rattle.gateway_loop.specs.Loop.{found_asking}
-use Rattle.loop_model.specs.Accounts.{stream_now}
-use Rattle.branch_asking.specs.Asking.{Finds}
-use Rattle.branch_asking.specs.Streams.{Connects, HasStreamsOf}
+use Rattle.branch_asking.specs.Asking.{Finds, got_by}
+use Rattle.branch_asking.specs.Streams.{Connects, HasStreamsOf, left_by}
+use Rattle.loop_model.specs.Streams.{ShareValue, closed_stream, share_value}
+use Rattle.std.proofs.lemmas.List.Elements.{All-append, All-pop}
+use Rattle.std.specs.Prelude.{IfSome}
+use Rattle.loop_model.specs.Whole.{AreShared, IsSameIfThere, IsSameStream, count_shares, share_of}
 use Rattle.gateway_loop.specs.Clients.{IsTold, LetsGo, TakesIn}
 use Rattle.gateway_loop.specs.Closing.{ClosesFrom}
 use Rattle.gateway_loop.specs.Names.{AsksFor, Leaves}
@@ -19,53 +22,82 @@ use Rattle.gateway_loop.proofs.SumLemmas.{sum_map, sum_put}
 
 -- ---- what only grows
 
+same_stream : (s : StreamValue) → IsSameStream s s
+same_stream s = record { peer = refl; before = refl; turns = prefix-refl s.turns }
+
+stream_then : (s t u : StreamValue) → IsSameStream s t → IsSameStream t u → IsSameStream s u
+stream_then s t u a b = record { peer = b.peer ∙ a.peer; before = b.before ∙ a.before; turns = prefix-trans s.turns t.turns u.turns a.turns b.turns }
+
+there_then : (o : Option StreamValue) (t u : StreamValue) → IsSameIfThere o t → IsSameStream t u → IsSameIfThere o u
+there_then None t u a b = tt
+there_then (Some s) t u a b = stream_then s t u a b
+
+-- a stream is there, or none is
+abbrev IsThere : Option StreamValue → Option StreamValue → Type 0
+IsThere o n = (o ≡ None) ⊎ ((t : StreamValue) × (n ≡ Some t) × IsSameIfThere o t)
+
+is_there : (o : Option StreamValue) → IsThere o o
+is_there None = inl refl
+is_there (Some s) = inr (s, refl, same_stream s)
+
+no_stream : {A : Type 0} (t : StreamValue) (o : Option StreamValue) → o ≡ None → o ≡ Some t → A
+no_stream t o none some = absurd (let f : ⊥ = cc in f)
+
+-- .. and then another
+still_there : (o m n : Option StreamValue) → IsThere o m → IsThere m n → IsThere o n
+still_there o m n a b =
+    ⊎_elim inl
+    (λ (s : (t : StreamValue) × (m ≡ Some t) × IsSameIfThere o t).
+    ⊎_elim (λ (none : m ≡ None). no_stream s.0 m none s.1)
+    (λ (r : (u : StreamValue) × (n ≡ Some u) × IsSameIfThere m u). inr (r.0, r.1, there_then o s.0 r.0 s.2 (subst (λ (k : Option StreamValue). IsSameIfThere k r.0) s.1 r.2)))
+    b)
+    a
+
+-- .. and that is the last
+there_last : (o m : Option StreamValue) (last : StreamValue) → IsThere o m → IsSameIfThere m last → IsSameIfThere o last
+there_last o m last a b =
+    ⊎_elim (λ (none : o ≡ None). subst (λ (k : Option StreamValue). IsSameIfThere k last) (sym none) tt)
+    (λ (s : (t : StreamValue) × (m ≡ Some t) × IsSameIfThere o t). there_then o s.0 last s.2 (subst (λ (k : Option StreamValue). IsSameIfThere k last) s.1 b)) a
+
 asks_same : (x : AskingValue) → AsksOn x x
 asks_same x = record {
   job = refl;
   found = prefix-refl x.found;
-  streams = inl record { tried = refl; peer = inr refl; given = prefix-refl x.given; got = prefix-refl x.got; reported = inr (prefix-refl x.reported) };
+  streams = inl record { tried = refl; stream = is_there x.stream; reported = inr (prefix-refl x.reported) };
 }
 
 module _ (x y z : AskingValue) where
-  -- where the one has no other peer than the next, and that none than a third
-  same_peer : {o : Option SocketAddr} → (x.peer ≡ None) ⊎ (y.peer ≡ x.peer) → (y.peer ≡ None) ⊎ (o ≡ y.peer) → (x.peer ≡ None) ⊎ (o ≡ x.peer)
-  same_peer p q = search arith
-
   -- where the one had no stream, or the next has none
-  reports_on : KeepsStream x y → KeepsStream y z → (x.peer ≡ None) ⊎ IsPrefixOf x.reported z.reported
+  reports_on : KeepsStream x y → KeepsStream y z → (x.stream ≡ None) ⊎ IsPrefixOf x.reported z.reported
   reports_on k l =
       ⊎_elim inl
       (λ (p : IsPrefixOf x.reported y.reported). ⊎_elim
-      (λ (none : y.peer ≡ None). ⊎_elim inl (λ (same : y.peer ≡ x.peer). inl (sym same ∙ none)) k.peer)
+      (λ (none : y.stream ≡ None). ⊎_elim inl (λ (s : (t : StreamValue) × (y.stream ≡ Some t) × IsSameIfThere x.stream t). no_stream s.0 y.stream none s.1) k.stream)
       (λ (q : IsPrefixOf y.reported z.reported). inr (prefix-trans x.reported y.reported z.reported p q))
       l.reported)
       k.reported
 
   keeps_keeps : KeepsStream x y → KeepsStream y z → KeepsStream x z
-  keeps_keeps k l = record {
-    tried = l.tried ∙ k.tried;
-    peer = same_peer k.peer l.peer;
-    given = prefix-trans x.given y.given z.given k.given l.given;
-    got = prefix-trans x.got y.got z.got k.got l.got;
-    reported = reports_on k l;
-  }
+  keeps_keeps k l = record { tried = l.tried ∙ k.tried; stream = still_there x.stream y.stream z.stream k.stream l.stream; reported = reports_on k l }
 
   keeps_gives : KeepsStream x y → GivesUpStream y z → GivesUpStream x z
   keeps_gives k g = record {
     last = g.last;
     others = g.others;
     tried_are = g.tried_are ∙ ap (λ (t : List StreamValue). t ++ g.last ∷ g.others) k.tried;
-    peer = ⊎_elim (λ (none : x.peer ≡ None). inl none) (λ (is : Some g.last.peer ≡ x.peer). inr (sym is))
-        (same_peer k.peer (⊎_elim (λ (none : y.peer ≡ None). inl none) (λ (is : y.peer ≡ Some g.last.peer). inr (sym is)) g.peer));
-    given = prefix-trans x.given y.given g.last.given k.given g.given;
-    got = prefix-trans x.got y.got g.last.got k.got g.got;
+    stream = there_last x.stream y.stream g.last k.stream g.stream;
   }
 
   gives_keeps : GivesUpStream x y → KeepsStream y z → GivesUpStream x z
-  gives_keeps g k = record { last = g.last; others = g.others; tried_are = k.tried ∙ g.tried_are; peer = g.peer; given = g.given; got = g.got }
+  gives_keeps g k = record { last = g.last; others = g.others; tried_are = k.tried ∙ g.tried_are; stream = g.stream }
 
   gives_gives : GivesUpStream x y → GivesUpStream y z → GivesUpStream x z
-  gives_gives g h = grind (arith, nat_tests, append_assoc)
+  gives_gives g h = record {
+    last = g.last;
+    others = g.others ++ h.last ∷ h.others;
+    tried_are = h.tried_are ∙ ap (λ (t : List StreamValue). t ++ h.last ∷ h.others) g.tried_are ∙ append_assoc x.tried (g.last ∷ g.others) (h.last ∷ h.others);
+    stream = g.stream;
+  }
 
   asks_then : AsksOn x y → AsksOn y z → AsksOn x z
   asks_then a b = record {
@@ -93,7 +125,7 @@ module _ (u v w : WholeLoop) (y : AskingValue) where
       }
 
 pub continues_same : (v : WholeLoop) → ContinuesLoop v v
-continues_same v = record { framing = refl; side = grow.continues_same v.side; asking = λ i x is. (x, inl is, asks_same x); ended = prefix-refl v.ended; looked_up = prefix-refl v.looked_up }
+continues_same v = record { framing = refl; side = grow.continues_same v.side; asking = λ i x is. (x, inl is, asks_same x); ended = prefix-refl v.ended; left = prefix-refl v.left; looked_up = prefix-refl v.looked_up }
 
 continues_then : (u v w : WholeLoop) → ContinuesLoop u v → ContinuesLoop v w → ContinuesLoop u w
 continues_then u v w a b = record {
@@ -108,6 +140,7 @@ continues_then u v w a b = record {
       (λ (e : HasEndedSince u v s.0). (s.0, inr (since_then u v w s.0 e b.ended), s.2))
       s.1;
   ended = prefix-trans u.ended v.ended w.ended a.ended b.ended;
+  left = prefix-trans u.left v.left w.left a.left b.left;
   looked_up = prefix-trans u.looked_up v.looked_up w.looked_up a.looked_up b.looked_up;
 }
 
@@ -179,7 +212,7 @@ none_asked b e = cc
 -- the clients' side went on, and the exchanges are the same
 continues_side : (framing : Framing) (asking : List (Option AskingState)) (ended : List (AskingState × Option Outcome)) (rest : Beside) (l m : LoopValue) → Continues l m
     → ContinuesLoop (whole_loop framing l asking ended rest) (whole_loop framing m asking ended rest)
-continues_side framing asking ended rest l m c = record { framing = refl; side = c; asking = λ i x is. (x, inl is, asks_same x); ended = prefix-refl (whole_loop framing l asking ended rest).ended; looked_up = prefix-refl rest.looked_up }
+continues_side framing asking ended rest l m c = record { framing = refl; side = c; asking = λ i x is. (x, inl is, asks_same x); ended = prefix-refl (whole_loop framing l asking ended rest).ended; left = prefix-refl rest.left; looked_up = prefix-refl rest.looked_up }
 
 module _ (framing : Framing) (asking : List (Option AskingState)) (ended : List (AskingState × Option Outcome)) (rest : Beside) (l m : LoopValue) where
   abbrev before : WholeLoop
@@ -213,35 +246,35 @@ module _ (framing : Framing) (asking : List (Option AskingState)) (ended : List 
 
 -- streams that waited were closed
 pub goes_closes : {a b : NetworkValue} (framing : Framing) (l : LoopValue) (asking : List (Option AskingState)) (ended : List (AskingState × Option Outcome)) (rest : Beside) (closing : List ClosedValue) → ClosesFrom a b rest.closing closing
-    → Goes a b (whole_loop framing l asking ended rest) (whole_loop framing l asking ended (beside closing rest.looked_up rest.waits))
+    → Goes a b (whole_loop framing l asking ended rest) (whole_loop framing l asking ended (beside rest.left closing rest.looked_up rest.waits))
 goes_closes {a} {b} framing l asking ended rest closing c =
-    moves (whole_loop framing l asking ended rest) (whole_loop framing l asking ended (beside closing rest.looked_up rest.waits))
-    record { framing = refl; side = grow.continues_same l; asking = λ i x is. (x, inl is, asks_same x); ended = prefix-refl (whole_loop framing l asking ended rest).ended; looked_up = prefix-refl rest.looked_up }
+    moves (whole_loop framing l asking ended rest) (whole_loop framing l asking ended (beside rest.left closing rest.looked_up rest.waits))
+    record { framing = refl; side = grow.continues_same l; asking = λ i x is. (x, inl is, asks_same x); ended = prefix-refl (whole_loop framing l asking ended rest).ended; left = prefix-refl rest.left; looked_up = prefix-refl rest.looked_up }
     (closes_accounts framing l asking ended rest closing a b c) refl
 
 -- what the exchanges are beside is another
-continues_beside : (framing : Framing) (l : LoopValue) (asking : List (Option AskingState)) (ended : List (AskingState × Option Outcome)) (rest later : Beside) → IsPrefixOf rest.looked_up later.looked_up
+continues_beside : (framing : Framing) (l : LoopValue) (asking : List (Option AskingState)) (ended : List (AskingState × Option Outcome)) (rest later : Beside) → IsPrefixOf rest.left later.left → IsPrefixOf rest.looked_up later.looked_up
     → ContinuesLoop (whole_loop framing l asking ended rest) (whole_loop framing l asking ended later)
-continues_beside framing l asking ended rest later more =
-    record { framing = refl; side = grow.continues_same l; asking = λ i x at. (x, inl at, asks_same x); ended = prefix-refl (whole_loop framing l asking ended rest).ended; looked_up = more }
+continues_beside framing l asking ended rest later stays more =
+    record { framing = refl; side = grow.continues_same l; asking = λ i x at. (x, inl at, asks_same x); ended = prefix-refl (whole_loop framing l asking ended rest).ended; left = stays; looked_up = more }
 
 -- a name was looked up, for which nobody waits any more
 pub admits_found : (framing : Framing) (l : LoopValue) (asking : List (Option AskingState)) (ended : List (AskingState × Option Outcome)) (rest : Beside) (later : List FoundValue) (waits : List (List ℕ)) (one : FoundValue)
     → later ≡ rest.looked_up ++ one ∷ [] → Leaves one.name rest.waits waits
-    → (a : NetworkValue) → Admits 0 (one ∷ []) a a (whole_loop framing l asking ended rest) (whole_loop framing l asking ended (beside rest.closing later waits))
+    → (a : NetworkValue) → Admits 0 (one ∷ []) a a (whole_loop framing l asking ended rest) (whole_loop framing l asking ended (beside rest.left rest.closing later waits))
 admits_found framing l asking ended rest later waits one is left a = record {
-  on = λ u c. continues_then u (whole_loop framing l asking ended rest) (whole_loop framing l asking ended (beside rest.closing later waits)) c
-      (continues_beside framing l asking ended rest (beside rest.closing later waits) (one ∷ [], is));
+  on = λ u c. continues_then u (whole_loop framing l asking ended rest) (whole_loop framing l asking ended (beside rest.left rest.closing later waits)) c
+      (continues_beside framing l asking ended rest (beside rest.left rest.closing later waits) (prefix-refl rest.left) (one ∷ [], is));
   accounts = found_accounts framing l asking ended rest later waits one a is left;
   drained = refl;
 }
 
 -- a name was asked for, or none
 pub goes_asks : {a b : NetworkValue} (framing : Framing) (l : LoopValue) (asking : List (Option AskingState)) (ended : List (AskingState × Option Outcome)) (rest : Beside) (waits : List (List ℕ)) (name : List ℕ) → AsksFor name a b rest.waits waits
-    → Goes a b (whole_loop framing l asking ended rest) (whole_loop framing l asking ended (beside rest.closing rest.looked_up waits))
+    → Goes a b (whole_loop framing l asking ended rest) (whole_loop framing l asking ended (beside rest.left rest.closing rest.looked_up waits))
 goes_asks {a} {b} framing l asking ended rest waits name asks = record {
-  on = λ u c. continues_then u (whole_loop framing l asking ended rest) (whole_loop framing l asking ended (beside rest.closing rest.looked_up waits)) c
-      (continues_beside framing l asking ended rest (beside rest.closing rest.looked_up waits) (prefix-refl rest.looked_up));
+  on = λ u c. continues_then u (whole_loop framing l asking ended rest) (whole_loop framing l asking ended (beside rest.left rest.closing rest.looked_up waits)) c
+      (continues_beside framing l asking ended rest (beside rest.left rest.closing rest.looked_up waits) (prefix-refl rest.left) (prefix-refl rest.looked_up));
   accounts = asks_accounts framing l asking ended rest waits name a b asks;
   drained = refl;
 }
@@ -272,6 +305,7 @@ module _ (old new : List (Option AskingState)) (i : ℕ) where
         (λ (other : j ≡ i → ⊥). (z, inl (stays_at (Some y) j z put other is), asks_same z))
         (cases_eq j i);
     ended = prefix-refl (whole_loop framing v old ended rest).ended;
+    left = prefix-refl rest.left;
     looked_up = prefix-refl rest.looked_up;
   }
 
@@ -289,7 +323,7 @@ module _ (old new : List (Option AskingState)) (i : ℕ) where
 
   -- .. began
   pub goes_begin : (framing : Framing) (v w : LoopValue) (ended : List (AskingState × Option Outcome)) (rest : Beside) (y : AskingState) → Onward v w → IsStill v w → slice_index_or old i None ≡ None
-      → Put old new i (Some y) → (asked_for y).tried ≡ [] → (asked_for y).peer ≡ None → (a : NetworkValue) → Goes a a (whole_loop framing v old ended rest) (whole_loop framing w new ended rest)
+      → Put old new i (Some y) → (asked_for y).tried ≡ [] → (asked_for y).stream ≡ None → (a : NetworkValue) → Goes a a (whole_loop framing v old ended rest) (whole_loop framing w new ended rest)
   goes_begin framing v w ended rest y o still free put none alone a =
       moves (whole_loop framing v old ended rest) (whole_loop framing w new ended rest) record {
         framing = refl;
@@ -300,19 +334,20 @@ module _ (old new : List (Option AskingState)) (i : ℕ) where
             (λ (other : j ≡ i → ⊥). (z, inl (stays_at (Some y) j z put other is), asks_same z))
             (cases_eq j i);
         ended = prefix-refl (whole_loop framing v old ended rest).ended;
+        left = prefix-refl rest.left;
         looked_up = prefix-refl rest.looked_up;
       }
       (begin_accounts framing v w old new ended rest i a y still free put none alone) o.drained
 
   -- .. ended
-  pub goes_ended : {a b : NetworkValue} (framing : Framing) (v w : LoopValue) (ended ended' : List (AskingState × Option Outcome)) (rest : Beside) (closing' streams : List ClosedValue) (x y : AskingState) (end : Option Outcome) → Onward v w → IsStill v w
+  pub goes_ended : {a b : NetworkValue} (framing : Framing) (v w : LoopValue) (ended ended' : List (AskingState × Option Outcome)) (rest : Beside) (left' : List StreamValue) (closing' : List ClosedValue) (x y : AskingState) (end : Option Outcome) → Onward v w → IsStill v w
       → slice_index_or old i None ≡ Some x → Put old new i None → ended' ≡ ended ++ (y, end) ∷ [] → AsksOn (asked_for x) (asked_for y) → HasStreamsOf (asked_for x) (asked_for y)
-      → streams ≡ stream_now (asked_for y) → ClosesFrom a b (streams ++ rest.closing) closing'
-      → Goes a b (whole_loop framing v old ended rest) (whole_loop framing w new ended' (beside closing' rest.looked_up rest.waits))
-  goes_ended {a} {b} framing v w ended ended' rest closing' streams x y end o still was put is_now on same stream closes =
+      → left' ≡ rest.left ++ left_by (asked_for y) end → ClosesFrom a b (map closed_stream (left_by (asked_for y) end) ++ rest.closing) closing'
+      → Goes a b (whole_loop framing v old ended rest) (whole_loop framing w new ended' (beside left' closing' rest.looked_up rest.waits))
+  goes_ended {a} {b} framing v w ended ended' rest left' closing' x y end o still was put is_now on same leaves closes =
       let show : AskingState × Option Outcome → EndedValue = λ (d : AskingState × Option Outcome). ended_value (asked_for d.0) d.1 in
       let more : map show ended' ≡ map show ended ++ show (y, end) ∷ [] = ap (map show) is_now ∙ map-append show ended ((y, end) ∷ []) in
-      moves (whole_loop framing v old ended rest) (whole_loop framing w new ended' (beside closing' rest.looked_up rest.waits)) record {
+      moves (whole_loop framing v old ended rest) (whole_loop framing w new ended' (beside left' closing' rest.looked_up rest.waits)) record {
         framing = refl;
         side = o.on v (grow.continues_same v);
         asking = λ j z is.
@@ -322,9 +357,10 @@ module _ (old new : List (Option AskingState)) (i : ℕ) where
             (λ (other : j ≡ i → ⊥). (z, inl (stays_at None j z put other is), asks_same z))
             (cases_eq j i);
         ended = (show (y, end) ∷ [], more);
+        left = (left_by (asked_for y) end, leaves);
         looked_up = prefix-refl rest.looked_up;
       }
-      (end_accounts framing v w old new ended rest i a b x y end ended' closing' streams still was put same is_now stream closes) o.drained
+      (end_accounts framing v w old new ended rest i a b x y end ended' left' closing' still was put same is_now leaves closes) o.drained
 
 pub ticked_on : (u v w : WholeLoop) → HasTicked u.side v.side → ContinuesLoop v w → HasTicked u.side w.side
 ticked_on u v w t c =
@@ -357,8 +393,8 @@ count_put p old new i o n was put = grind (arith, nat_tests, sum_put)
 -- ---- what is kept
 
 -- the exchanges are the same
-pub keeps_asking : (v w : WholeLoop) → w.framing ≡ v.framing → HandsNothing v.side w.side → w.asking ≡ v.asking → w.ended ≡ v.ended → w.looked_up ≡ v.looked_up → AsksFairly v → AsksFairly w
-keeps_asking v w framing none asking ended looked a = record {
+pub keeps_asking : (v w : WholeLoop) → w.framing ≡ v.framing → HandsNothing v.side w.side → w.asking ≡ v.asking → w.ended ≡ v.ended → w.left ≡ v.left → w.looked_up ≡ v.looked_up → AsksFairly v → AsksFairly w
+keeps_asking v w framing none asking ended left looked a = record {
   results = none.no_result ∙ a.results ∙ ap (map (λ (e : EndedValue). (e.asking.job, e.outcome))) (sym ended);
   fair = subst (λ (l : List EndedValue). All (IsFair w.framing) l) (sym ended) (subst (λ (f : Framing). All (IsFair f) v.ended) (sym framing) a.fair);
   begun = λ i x is. a.begun i x (ap (λ l. asked_at i l) (sym asking) ∙ is);
@@ -367,6 +403,7 @@ keeps_asking v w framing none asking ended looked a = record {
       (subst (λ (l : List FoundValue). All (λ (e : EndedValue). AreOfName e.asking.job.address e.asking.found l) v.ended) (sym looked) a.found_ended);
   jobs = λ p. ap (count_by p) none.no_job ∙ a.jobs p ∙ ap (λ l. count_by (λ (e : EndedValue). p e.asking.job) l + count_asked p v.asking) (sym ended)
       ∙ ap (λ l. count_by (λ (e : EndedValue). p e.asking.job) w.ended + count_asked p l) (sym asking);
+  shared = subst (λ (l : List EndedValue). AreShared l w.left) (sym ended) (subst (λ (l : List StreamValue). AreShared v.ended l) (sym left) a.shared);
 }
 
 -- where one place changed, each is so if what stands there is
@@ -422,57 +459,58 @@ none_state b e = cc
 
 -- nothing was written to a stream of it that has not taken a byte
 abbrev pub HasUntouched : AskingState → Type 0
-HasUntouched y = y.attempt.connected ≡ false → y.attempt.got ≡ []
+HasUntouched y = y.attempt.connected ≡ false → got_by y.attempt.stream ≡ []
 
 framed_by : (framing : Framing) (y : AskingState) → y.framing ≡ framing → HasUntouched y → (x : AskingState) → Some y ≡ Some x → IsFramed framing x
 framed_by framing y framed untouched x is = subst (λ (t : AskingState). IsFramed framing t) (some_state y x is) ((framed, untouched))
 
--- what holds of a loop with these clients, jobs and ends, and what was found, whatever streams wait to be closed
-abbrev pub Keeps : Framing → List FoundValue → LoopValue → List (Option AskingState) → List (AskingState × Option Outcome) → Type 0
-Keeps framing looked v asking ended = AsksFairly (whole_loop framing v asking ended (beside [] looked [])) × AreFramed framing asking
+-- what holds of a loop with these clients, jobs and ends, the streams that were left, and what was found, whatever streams wait to be closed
+abbrev pub Keeps : Framing → List StreamValue → List FoundValue → LoopValue → List (Option AskingState) → List (AskingState × Option Outcome) → Type 0
+Keeps framing left looked v asking ended = AsksFairly (whole_loop framing v asking ended (beside left [] looked [])) × AreFramed framing asking
 
 -- the clients' side went on with none of them
-pub keeps_clients : (framing : Framing) (looked : List FoundValue) (v w : LoopValue) (asking : List (Option AskingState)) (ended : List (AskingState × Option Outcome)) → HandsNothing v w
-    → Keeps framing looked v asking ended → Keeps framing looked w asking ended
-keeps_clients framing looked v w asking ended hands k =
-    (keeps_asking (whole_loop framing v asking ended (beside [] looked [])) (whole_loop framing w asking ended (beside [] looked [])) refl hands refl refl refl k.0, k.1)
+pub keeps_clients : (framing : Framing) (left : List StreamValue) (looked : List FoundValue) (v w : LoopValue) (asking : List (Option AskingState)) (ended : List (AskingState × Option Outcome)) → HandsNothing v w
+    → Keeps framing left looked v asking ended → Keeps framing left looked w asking ended
+keeps_clients framing left looked v w asking ended hands k =
+    (keeps_asking (whole_loop framing v asking ended (beside left [] looked [])) (whole_loop framing w asking ended (beside left [] looked [])) refl hands refl refl refl refl k.0, k.1)
 
 -- one of them went on with its job, and what was found for it is of its name
-pub keeps_own : (framing : Framing) (looked : List FoundValue) (v : LoopValue) (old new : List (Option AskingState)) (ended : List (AskingState × Option Outcome)) (i : ℕ) (x y : AskingState)
+pub keeps_own : (framing : Framing) (left : List StreamValue) (looked : List FoundValue) (v : LoopValue) (old new : List (Option AskingState)) (ended : List (AskingState × Option Outcome)) (i : ℕ) (x y : AskingState)
     → slice_index_or old i None ≡ Some x → y.job ≡ x.job → y.framing ≡ x.framing → Put old new i (Some y) → BeginsRequest (asked_for y) → HasUntouched y → AreOfName y.job.job.address y.addresses.found looked
-    → Keeps framing looked v old ended → Keeps framing looked v new ended
-keeps_own framing looked v old new ended i x y was job framed put begun untouched named k = (
+    → Keeps framing left looked v old ended → Keeps framing left looked v new ended
+keeps_own framing left looked v old new ended i x y was job framed put begun untouched named k = (
   record {
     results = k.0.results;
     fair = k.0.fair;
     begun = each_put (λ (z : AskingValue). BeginsRequest z) old new i (Some y) put (begun_by y begun) k.0.begun;
     found = each_put (IsNamed looked) old new i (Some y) put (named_by looked y named) k.0.found;
     found_ended = k.0.found_ended;
+    shared = k.0.shared;
     jobs = λ p.
         let count = count_put p old new i (Some x) (Some y) was put in
         let same : one_asked p (Some y) ≡ one_asked p (Some x) = ap (λ (j : HandedJob). cond (p j.job) 1 0) job in
         let is : sum_by (one_asked p) new ≡ sum_by (one_asked p) old = omega (arith, count, same) in
-        k.0.jobs p ∙ ap (λ n. count_by (λ (e : EndedValue). p e.asking.job) (whole_loop framing v old ended (beside [] looked [])).ended + n) (shown_count p old ∙ sym is ∙ sym (shown_count p new));
+        k.0.jobs p ∙ ap (λ n. count_by (λ (e : EndedValue). p e.asking.job) (whole_loop framing v old ended (beside left [] looked [])).ended + n) (shown_count p old ∙ sym is ∙ sym (shown_count p new));
   },
   framed_put framing old new i (Some y) put (framed_by framing y (framed ∙ (k.1 i x was).0) untouched) k.1,
 )
 
-named_at : (framing : Framing) (looked : List FoundValue) (v : LoopValue) (old : List (Option AskingState)) (ended : List (AskingState × Option Outcome)) (i : ℕ) (x : AskingState) → slice_index_or old i None ≡ Some x → Keeps framing looked v old ended
+named_at : (framing : Framing) (left : List StreamValue) (looked : List FoundValue) (v : LoopValue) (old : List (Option AskingState)) (ended : List (AskingState × Option Outcome)) (i : ℕ) (x : AskingState) → slice_index_or old i None ≡ Some x → Keeps framing left looked v old ended
     → AreOfName x.job.job.address x.addresses.found looked
-named_at framing looked v old ended i x was k = k.0.found i (asked_for x) (shown_at old i ∙ ap (λ (t : Option AskingState). show_slot t) was)
+named_at framing left looked v old ended i x was k = k.0.found i (asked_for x) (shown_at old i ∙ ap (λ (t : Option AskingState). show_slot t) was)
 
 -- .. with what was found before
-pub keeps_put : (framing : Framing) (looked : List FoundValue) (v : LoopValue) (old new : List (Option AskingState)) (ended : List (AskingState × Option Outcome)) (i : ℕ) (x y : AskingState)
+pub keeps_put : (framing : Framing) (left : List StreamValue) (looked : List FoundValue) (v : LoopValue) (old new : List (Option AskingState)) (ended : List (AskingState × Option Outcome)) (i : ℕ) (x y : AskingState)
     → slice_index_or old i None ≡ Some x → y.job ≡ x.job → y.framing ≡ x.framing → y.addresses.found ≡ x.addresses.found → Put old new i (Some y) → BeginsRequest (asked_for y) → HasUntouched y
-    → Keeps framing looked v old ended → Keeps framing looked v new ended
-keeps_put framing looked v old new ended i x y was job framed found put begun untouched k =
-    keeps_own framing looked v old new ended i x y was job framed put begun untouched (named_same looked x y job found (named_at framing looked v old ended i x was k)) k
+    → Keeps framing left looked v old ended → Keeps framing left looked v new ended
+keeps_put framing left looked v old new ended i x y was job framed found put begun untouched k =
+    keeps_own framing left looked v old new ended i x y was job framed put begun untouched (named_same looked x y job found (named_at framing left looked v old ended i x was k)) k
 
-pub same_streams : (x y : AskingState) → y.tried ≡ x.tried → y.attempt.peer ≡ x.attempt.peer → HasStreamsOf (asked_for x) (asked_for y)
-same_streams x y tried peer = record { tried = tried; peer = peer }
+pub same_streams : (x y : AskingState) → y.tried ≡ x.tried → y.attempt.stream ≡ x.attempt.stream → HasStreamsOf (asked_for x) (asked_for y)
+same_streams x y tried stream = record { tried = tried; peer = ap (λ (o : Option StreamValue). peers_of (option_to_list o)) stream }
 
 -- one of them was taken out, went on with its job, and was put back
-module _ (framing : Framing) (looked : List FoundValue) (v : LoopValue) (ended : List (AskingState × Option Outcome)) {s t u : Slab AskingState} {i key : ℕ} {x y : AskingState} where
+module _ (framing : Framing) (left : List StreamValue) (looked : List FoundValue) (v : LoopValue) (ended : List (AskingState × Option Outcome)) {s t u : Slab AskingState} {i key : ℕ} {x y : AskingState} where
   pub goes_back : (rest : Beside) → Updates s t i None → t.vacant_key ≡ i → key ≡ t.vacant_key → Updates t u key (Some y) → slice_index_or s.slots i None ≡ Some x
       → AsksOn (asked_for x) (asked_for y) → HasStreamsOf (asked_for x) (asked_for y) → (a : NetworkValue) → Goes a a (whole_loop framing v s.slots ended rest) (whole_loop framing v u.slots ended rest)
   goes_back rest out next is back was on same = goes_put s.slots u.slots i framing v ended rest x y was (put_back s t u i key y out next is back) on same
@@ -482,15 +520,15 @@ module _ (framing : Framing) (looked : List FoundValue) (v : LoopValue) (ended :
   over_back {a} {b} rest out next is back was on connects = goes_over s.slots u.slots i framing v ended rest x y was (put_back s t u i key y out next is back) on connects
 
   pub keeps_back : Updates s t i None → t.vacant_key ≡ i → key ≡ t.vacant_key → Updates t u key (Some y) → slice_index_or s.slots i None ≡ Some x
-      → y.job ≡ x.job → y.framing ≡ x.framing → y.addresses.found ≡ x.addresses.found → BeginsRequest (asked_for y) → HasUntouched y → Keeps framing looked v s.slots ended → Keeps framing looked v u.slots ended
-  keeps_back out next is back was job framed found begun untouched a = keeps_put framing looked v s.slots u.slots ended i x y was job framed found (put_back s t u i key y out next is back) begun untouched a
+      → y.job ≡ x.job → y.framing ≡ x.framing → y.addresses.found ≡ x.addresses.found → BeginsRequest (asked_for y) → HasUntouched y → Keeps framing left looked v s.slots ended → Keeps framing left looked v u.slots ended
+  keeps_back out next is back was job framed found begun untouched a = keeps_put framing left looked v s.slots u.slots ended i x y was job framed found (put_back s t u i key y out next is back) begun untouched a
 
 -- .. and more was found for one
-pub finds_put : (framing : Framing) (looked : List FoundValue) (v : LoopValue) (old new : List (Option AskingState)) (ended : List (AskingState × Option Outcome)) (i : ℕ) (x y : AskingState)
+pub finds_put : (framing : Framing) (left : List StreamValue) (looked : List FoundValue) (v : LoopValue) (old new : List (Option AskingState)) (ended : List (AskingState × Option Outcome)) (i : ℕ) (x y : AskingState)
     → slice_index_or old i None ≡ Some x → y.job ≡ x.job → y.framing ≡ x.framing → (one : FoundValue) (more : List SocketAddr) → (y ≡ x) ⊎ (x.job.job.address ≡ one.name) → Finds one.name more x y → Contains looked one → more ≡ take 32 one.addresses
-    → Put old new i (Some y) → BeginsRequest (asked_for y) → HasUntouched y → Keeps framing looked v old ended → Keeps framing looked v new ended
-finds_put framing looked v old new ended i x y was job framed one more own finds there first put begun untouched a =
-    keeps_own framing looked v old new ended i x y was job framed put begun untouched (named_found looked x y one more own finds there first (named_at framing looked v old ended i x was a)) a
+    → Put old new i (Some y) → BeginsRequest (asked_for y) → HasUntouched y → Keeps framing left looked v old ended → Keeps framing left looked v new ended
+finds_put framing left looked v old new ended i x y was job framed one more own finds there first put begun untouched a =
+    keeps_own framing left looked v old new ended i x y was job framed put begun untouched (named_found looked x y one more own finds there first (named_at framing left looked v old ended i x was a)) a
 
 -- what is seen of it then
 pub found_asked : (name : List ℕ) (more : List SocketAddr) (x y : AskingState) → Finds name more x y → asked_for y ≡ found_asking name more (asked_for x)
@@ -509,32 +547,34 @@ found_asked name more x y finds = by_it (bytes_eq name x.job.job.address) refl
     by_it false is = ap asked_for (finds.1 (λ its. off_on (sym is ∙ (bytes_eq-Decides name x.job.job.address).1 (sym its))))
 
 -- where no job waits, nothing was taken
-pub takes_none : (framing : Framing) (looked : List FoundValue) (v w : LoopValue) (old new : List (Option AskingState)) (ended : List (AskingState × Option Outcome))
-    → w.results ≡ v.results → w.handed ≡ v.handed ++ [] → new ≡ old → Keeps framing looked v old ended → Keeps framing looked w new ended
-takes_none framing looked v w old new ended same more slots k =
-    subst (λ (now : List (Option AskingState)). Keeps framing looked w now ended) (sym slots) (
+pub takes_none : (framing : Framing) (left : List StreamValue) (looked : List FoundValue) (v w : LoopValue) (old new : List (Option AskingState)) (ended : List (AskingState × Option Outcome))
+    → w.results ≡ v.results → w.handed ≡ v.handed ++ [] → new ≡ old → Keeps framing left looked v old ended → Keeps framing left looked w new ended
+takes_none framing left looked v w old new ended same more slots k =
+    subst (λ (now : List (Option AskingState)). Keeps framing left looked w now ended) (sym slots) (
       record {
         results = same ∙ k.0.results;
         fair = k.0.fair;
         begun = k.0.begun;
         found = k.0.found;
         found_ended = k.0.found_ended;
+        shared = k.0.shared;
         jobs = λ p. ap (count_by p) (more ∙ append-nil v.handed) ∙ k.0.jobs p;
       },
       k.1,
     )
 
 -- a job was taken, and is asked for
-pub takes_job : (framing : Framing) (looked : List FoundValue) (v w : LoopValue) (old new : List (Option AskingState)) (ended : List (AskingState × Option Outcome)) (i : ℕ) (y : AskingState) (j : JobValue)
+pub takes_job : (framing : Framing) (left : List StreamValue) (looked : List FoundValue) (v w : LoopValue) (old new : List (Option AskingState)) (ended : List (AskingState × Option Outcome)) (i : ℕ) (y : AskingState) (j : JobValue)
     → w.results ≡ v.results → w.handed ≡ v.handed ++ j ∷ [] → y.job.job ≡ j → y.framing ≡ framing → y.addresses.found ≡ [] → slice_index_or old i None ≡ None → Put old new i (Some y)
-    → BeginsRequest (asked_for y) → HasUntouched y → Keeps framing looked v old ended → Keeps framing looked w new ended
-takes_job framing looked v w old new ended i y j same more job framed none free put begun untouched k = (
+    → BeginsRequest (asked_for y) → HasUntouched y → Keeps framing left looked v old ended → Keeps framing left looked w new ended
+takes_job framing left looked v w old new ended i y j same more job framed none free put begun untouched k = (
   record {
     results = same ∙ k.0.results;
     fair = k.0.fair;
     begun = each_put (λ (z : AskingValue). BeginsRequest z) old new i (Some y) put (begun_by y begun) k.0.begun;
     found = each_put (IsNamed looked) old new i (Some y) put (named_by looked y (inl none)) k.0.found;
     found_ended = k.0.found_ended;
+    shared = k.0.shared;
     jobs = λ p.
         let count = count_put p old new i None (Some y) free put in
         let own : one_asked p (Some y) ≡ cond (p j) 1 0 = ap (λ (k : JobValue). cond (p k) 1 0) job in
@@ -549,10 +589,70 @@ takes_job framing looked v w old new ended i y j same more job framed none free 
 )
 
 -- one of them ended, and its result was handed in
-pub ends_one : (framing : Framing) (looked : List FoundValue) (v w : LoopValue) (old new : List (Option AskingState)) (ended ended' : List (AskingState × Option Outcome)) (i : ℕ) (x y : AskingState) (o : Option Outcome) (j : HandedJob)
+-- a stream that no job went over before has one share, once it is left
+abbrev IsNew : StreamValue → Type 0
+IsNew s = s.before ≡ []
+
+module _ (ended : List EndedValue) (left : List StreamValue) (x : AskingValue) (o : Option Outcome) where
+  abbrev last : EndedValue
+  last = ended_value x o
+
+  -- the stream that is left, if the job had this one
+  abbrev leaves : Option StreamValue → List StreamValue
+  leaves s = option_map_or (λ (t : StreamValue). stream_value t.peer (t.before ++ share_of last) [] ∷ []) s []
+
+  own_share : (s : StreamValue) → x.stream ≡ Some s → share_of last ≡ share_value x.job s.turns o ∷ []
+  own_share s is = ap (λ (k : Option StreamValue). option_map_or (λ (t : StreamValue). share_value x.job t.turns o ∷ []) k []) is
+
+  no_share : x.stream ≡ None → share_of last ≡ []
+  no_share is = ap (λ (k : Option StreamValue). option_map_or (λ (t : StreamValue). share_value x.job t.turns o ∷ []) k []) is
+
+  shares_by : (p : ShareValue → Bool) (s : Option StreamValue) → x.stream ≡ s → IfSome s IsNew → count_shares p (leaves s) ≡ count_by p (share_of last)
+  shares_by p None is new = sym (ap (count_by p) (no_share is))
+  shares_by p (Some s) is new =
+      let own = stream_value s.peer (s.before ++ share_of last) [] in
+      let one = sum_by-cons (λ (t : StreamValue). count_by p t.before) own [] in
+      let none : sum_by (λ (t : StreamValue). count_by p t.before) [] ≡ 0 = refl in
+      let its = ap (λ (l : List ShareValue). count_by p (l ++ share_of last)) new in
+      omega (arith, one, none, its)
+
+  one_by : (s : Option StreamValue) → x.stream ≡ s → IfSome s IsNew → All (λ (t : StreamValue). length t.before ≤ 1) (leaves s)
+  one_by None is new = All-nil (λ (t : StreamValue). length t.before ≤ 1)
+  one_by (Some s) is new =
+      let count = ap (λ (l : List ShareValue). length (l ++ share_of last)) new ∙ ap (λ (l : List ShareValue). length l) (own_share s is) in
+      All-push (λ (t : StreamValue). length t.before ≤ 1) [] (stream_value s.peer (s.before ++ share_of last) []) (All-nil (λ (t : StreamValue). length t.before ≤ 1)) (omega (arith, count))
+
+  still_by : (s : Option StreamValue) → All (λ (t : StreamValue). t.turns ≡ []) (leaves s)
+  still_by None = All-nil (λ (t : StreamValue). t.turns ≡ [])
+  still_by (Some s) = All-push (λ (t : StreamValue). t.turns ≡ []) [] (stream_value s.peer (s.before ++ share_of last) []) (All-nil (λ (t : StreamValue). t.turns ≡ [])) refl
+
+  pub more_shared : All IsNew (streams_for x) → AreShared ended left → AreShared (ended ++ last ∷ []) (left ++ left_by x o)
+  more_shared new k =
+      let own_new = (All-pop IsNew (streams_for x) x.tried x.stream refl new).1 in record {
+        shares = λ p.
+            let before = k.shares p in
+            let of_ended : EndedValue → ℕ = λ (e : EndedValue). count_by p (share_of e) in
+            let total = sum_by-append of_ended ended (last ∷ []) in
+            let its = sum_by-cons of_ended last [] in
+            let none : sum_by of_ended [] ≡ 0 = refl in
+            let more = sum_by-append (λ (s : StreamValue). count_by p s.before) left (left_by x o) in
+            let own = shares_by p x.stream refl own_new in
+            omega (arith, before, total, its, none, more, own);
+        one = All-append (λ (s : StreamValue). length s.before ≤ 1) left (left_by x o) k.one (one_by x.stream refl own_new);
+        still = All-append (λ (s : StreamValue). s.turns ≡ []) left (left_by x o) k.still (still_by x.stream);
+      }
+
+-- one stream more was noted
+pub left_push : {B : Type 0} (show : B → StreamValue) (left later : List (B × Unit {0})) (b : B) (own : List StreamValue) → later ≡ left ++ (b, tt) ∷ [] → show b ∷ [] ≡ own
+    → map (λ (s : B × Unit {0}). show s.0) later ≡ map (λ (s : B × Unit {0}). show s.0) left ++ own
+left_push {B} show left later b own is its =
+    ap (map (λ (s : B × Unit {0}). show s.0)) is ∙ map-append (λ (s : B × Unit {0}). show s.0) left ((b, tt) ∷ [])
+    ∙ ap (λ (l : List StreamValue). map (λ (s : B × Unit {0}). show s.0) left ++ l) its
+
+pub ends_one : (framing : Framing) (left : List StreamValue) (looked : List FoundValue) (v w : LoopValue) (old new : List (Option AskingState)) (ended ended' : List (AskingState × Option Outcome)) (left' : List StreamValue) (i : ℕ) (x y : AskingState) (o : Option Outcome) (j : HandedJob)
     → w.results ≡ v.results ++ (j.job, o) ∷ [] → w.handed ≡ v.handed → slice_index_or old i None ≡ Some x → y.job ≡ x.job → y.framing ≡ x.framing → y.addresses.found ≡ x.addresses.found → j ≡ y.job → Put old new i None
-    → ended' ≡ ended ++ (y, o) ∷ [] → IsFair y.framing (ended_value (asked_for y) o) → Keeps framing looked v old ended → Keeps framing looked w new ended'
-ends_one framing looked v w old new ended ended' i x y o j results same was job framed found own put more fair k =
+    → ended' ≡ ended ++ (y, o) ∷ [] → left' ≡ left ++ left_by (asked_for y) o → IsFair y.framing (ended_value (asked_for y) o) → Keeps framing left looked v old ended → Keeps framing left' looked w new ended'
+ends_one framing left looked v w old new ended ended' left' i x y o j results same was job framed found own put more leaves fair k =
     let show : AskingState × Option Outcome → EndedValue = λ (d : AskingState × Option Outcome). ended_value (asked_for d.0) d.1 in
     let shown : map show ended' ≡ map show ended ++ show (y, o) ∷ [] = ap (map show) more ∙ map-append show ended ((y, o) ∷ []) in
     let pair : EndedValue → JobValue × Option Outcome = λ (e : EndedValue). (e.asking.job, e.outcome) in (
@@ -582,33 +682,36 @@ ends_one framing looked v w old new ended ended' i x y o j results same was job 
             let before = shown_count p old in
             let later = shown_count p new in
             omega (arith, count, one, none, handed, total, last, before, later);
+        shared = subst (λ (l : List EndedValue). AreShared l left') (sym shown)
+            (subst (λ (l : List StreamValue). AreShared (map show ended ++ show (y, o) ∷ []) l) (sym leaves) (more_shared (map show ended) left (asked_for y) o fair.begun.new k.0.shared));
       },
       framed_put framing old new i None put (λ (z : AskingState) is. absurd (none_state z is)) k.1,
     )
 
-pub starts_fair : (framing : Framing) (looked : List FoundValue) (v : LoopValue) → v.results ≡ [] → v.handed ≡ [] → Keeps framing looked v [] []
+pub starts_fair : (framing : Framing) (looked : List FoundValue) (v : LoopValue) → v.results ≡ [] → v.handed ≡ [] → Keeps framing [] looked v [] []
 starts_fair framing looked v no_results none_handed = (fair, λ i x is. absurd (none_state x is))
   where
-    fair : AsksFairly (whole_loop framing v [] [] (beside [] looked []))
+    fair : AsksFairly (whole_loop framing v [] [] (beside [] [] looked []))
     fair = search arith
 
 -- .. and whichever those are
 pub fair_closing : (framing : Framing) (v : LoopValue) (asking : List (Option AskingState)) (ended : List (AskingState × Option Outcome)) (rest : Beside)
-    → AsksFairly (whole_loop framing v asking ended (beside [] rest.looked_up [])) → AsksFairly (whole_loop framing v asking ended rest)
-fair_closing framing v asking ended rest a = record { results = a.results; fair = a.fair; begun = a.begun; found = a.found; found_ended = a.found_ended; jobs = a.jobs }
+    → AsksFairly (whole_loop framing v asking ended (beside rest.left [] rest.looked_up [])) → AsksFairly (whole_loop framing v asking ended rest)
+fair_closing framing v asking ended rest a = record { results = a.results; fair = a.fair; begun = a.begun; found = a.found; found_ended = a.found_ended; jobs = a.jobs; shared = a.shared }
 
 -- what was found before stays so where more is
-pub fair_found : (framing : Framing) (v : LoopValue) (asking : List (Option AskingState)) (ended : List (AskingState × Option Outcome)) (looked later : List FoundValue) (one : FoundValue) → later ≡ looked ++ one ∷ []
-    → Keeps framing looked v asking ended → Keeps framing later v asking ended
-fair_found framing v asking ended looked later one is k = (
+pub fair_found : (framing : Framing) (left : List StreamValue) (v : LoopValue) (asking : List (Option AskingState)) (ended : List (AskingState × Option Outcome)) (looked later : List FoundValue) (one : FoundValue) → later ≡ looked ++ one ∷ []
+    → Keeps framing left looked v asking ended → Keeps framing left later v asking ended
+fair_found framing left v asking ended looked later one is k = (
   record {
     results = k.0.results;
     fair = k.0.fair;
     begun = k.0.begun;
     found = λ i x at. more_found x.job.address x.found (k.0.found i x at);
     found_ended = All-weaker (λ (e : EndedValue). AreOfName e.asking.job.address e.asking.found looked) (λ (e : EndedValue). AreOfName e.asking.job.address e.asking.found later)
-        (λ (e : EndedValue) named. more_found e.asking.job.address e.asking.found named) (whole_loop framing v asking ended (beside [] looked [])).ended k.0.found_ended;
+        (λ (e : EndedValue) named. more_found e.asking.job.address e.asking.found named) (whole_loop framing v asking ended (beside left [] looked [])).ended k.0.found_ended;
     jobs = k.0.jobs;
+    shared = k.0.shared;
   },
   k.1,
 )

@@ -1,11 +1,11 @@
 -- What it tells that a test answers true.
-use Rattle.gateway_loop.proofs.Words.{◌≡◌, ℕ, zero, suc, ◌+◌, ◌≤◌, Bool, true, false, ◌||◌, option_map, List, [], ◌∷◌, ◌++◌, map, Option, None, Some, refl, sym, ap, ◌∙◌, subst, arith, inl, inr, length, append-nil, count_by, sum_by-cons, is_some, not, slice_index_or, ◌==◌, entries_from, ClientValue, AskingValue, AskingState, GatewayValue, WholeLoop, asked_at, asked_for, shown, IsPrefixOf, request_of, Contains, SocketAddr}
+use Rattle.gateway_loop.proofs.Words.{◌≡◌, ℕ, zero, suc, ◌+◌, ◌≤◌, Bool, true, false, ◌||◌, option_map, List, [], ◌∷◌, ◌++◌, map, Option, None, Some, refl, sym, ap, ◌∙◌, subst, arith, inl, inr, length, append-nil, count_by, sum_by-cons, is_some, not, slice_index_or, ◌==◌, entries_from, ClientValue, AskingValue, AskingState, GatewayValue, WholeLoop, asked_at, asked_for, shown, IsPrefixOf, request_of, Contains, SocketAddr, got_for, StreamValue}
 use Rattle.std.proofs.lemmas.Bool.{eqb-true, leb-true, ltb-false}
 use Rattle.std.proofs.lemmas.Bool.Decides.{nat_tests}
 use Rattle.std.proofs.lemmas.List.{length-append, nil_from_length}
 use Rattle.std.specs.Prelude.{nat_le, nat_lt, ◌&&◌, ◌*◌, ◌/◌, ◌%◌, if◌then◌else◌}
 use Rattle.std.specs.List.{list_all}
-use Rattle.branch_asking.specs.Asking.{until_of}
+use Rattle.branch_asking.specs.Asking.{got_by, until_of}
 use Rattle.branch_asking.specs.Rests.{is_sent, rests_watched}
 use Rattle.gateway_model.specs.Known.{Shown}
 use Rattle.loop_model.specs.Rest.{AtMost, IsWatched, IsWritten, RestsAsking, RestsClient}
@@ -148,24 +148,24 @@ nothing_more got request begins h =
     by_length : {r g a t : ℕ} → r ≤ g → r ≡ a → a ≡ g + t → t ≡ 0
     by_length le is sum = omega (arith, le, is, sum)
 
-module _ (s : Shown) (until : Option ℕ) (i : ℕ) (x : AskingState) (begins : IsPrefixOf x.attempt.got (request_of x.job.job)) (untouched : HasUntouched x) where
+module _ (s : Shown) (until : Option ℕ) (i : ℕ) (x : AskingState) (begins : IsPrefixOf (got_by x.attempt.stream) (request_of x.job.job)) (untouched : HasUntouched x) where
   abbrev Sent : Bool
   Sent = is_sent (asked_for x)
 
-  all_sent : Sent ≡ true → x.attempt.got ≡ request_of x.job.job
-  all_sent h = nothing_more x.attempt.got (request_of x.job.job) begins h
+  all_sent : Sent ≡ true → got_by x.attempt.stream ≡ request_of x.job.job
+  all_sent h = nothing_more (got_by x.attempt.stream) (request_of x.job.job) begins h
 
-  read_by : (b : Bool) → x.attempt.connected ≡ b → (x.attempt.got ≡ [] → ⊥) → (not x.attempt.reads || not b) ≡ true → not x.attempt.reads ≡ true
+  read_by : (b : Bool) → x.attempt.connected ≡ b → (got_by x.attempt.stream ≡ [] → ⊥) → (not x.attempt.reads || not b) ≡ true → not x.attempt.reads ≡ true
   read_by true is some h = one_true (not true) (not x.attempt.reads) (or_swap (not x.attempt.reads) h) refl
   read_by false is some h = absurd (some (untouched is))
 
   -- what its stream, watched so, says of it
   pub record RestsStream (watched : Option (ℕ × Bool)) : Type 0 where
-    pub unread : (x.attempt.got ≡ [] → ⊥) → x.attempt.reads ≡ false
-    pub unsent : (x.attempt.got ≡ request_of x.job.job → ⊥) → x.attempt.writes ≡ false
-    pub watches : is_some x.attempt.peer ≡ true → (writes : Bool) × (watched ≡ Some (2 * i + 1, writes)) × ((x.attempt.got ≡ request_of x.job.job → ⊥) → writes ≡ true)
+    pub unread : (got_by x.attempt.stream ≡ [] → ⊥) → x.attempt.reads ≡ false
+    pub unsent : (got_by x.attempt.stream ≡ request_of x.job.job → ⊥) → x.attempt.writes ≡ false
+    pub watches : is_some x.attempt.stream ≡ true → (writes : Bool) × (watched ≡ Some (2 * i + 1, writes)) × ((got_by x.attempt.stream ≡ request_of x.job.job → ⊥) → writes ≡ true)
 
-  unsent_by : (b w : Bool) → Sent ≡ b → (b || w) ≡ true → (x.attempt.got ≡ request_of x.job.job → ⊥) → w ≡ true
+  unsent_by : (b w : Bool) → Sent ≡ b → (b || w) ≡ true → (got_by x.attempt.stream ≡ request_of x.job.job → ⊥) → w ≡ true
   unsent_by true w is h unsent = absurd (unsent (all_sent is))
   unsent_by false w is h unsent = h
 
@@ -173,21 +173,21 @@ module _ (s : Shown) (until : Option ℕ) (i : ℕ) (x : AskingState) (begins : 
   streams None h k = absurd (let clash : false ≡ true = h in let f : ⊥ = cc in f)
   streams (Some w) h k =
       let b = both_true _ _ h in
-      let writes : (x.attempt.got ≡ request_of x.job.job → ⊥) → (w.1 && not x.attempt.writes) ≡ true = unsent_by Sent (w.1 && not x.attempt.writes) refl b.1 in record {
+      let writes : (got_by x.attempt.stream ≡ request_of x.job.job → ⊥) → (w.1 && not x.attempt.writes) ≡ true = unsent_by Sent (w.1 && not x.attempt.writes) refl b.1 in record {
         unread = λ some. not_true x.attempt.reads (read_by x.attempt.connected refl some b.0);
         unsent = λ unsent. not_true x.attempt.writes (both_true _ _ (writes unsent)).1;
         watches = λ there. (w.1, ap (λ (t : ℕ). Some (t, w.1)) (exchange_of w.0 i k), λ unsent. (both_true _ _ (writes unsent)).0);
       }
 
   -- without a stream nothing may be read or written
-  nowhere : is_some x.attempt.peer ≡ false → (not x.attempt.reads && not x.attempt.writes) ≡ true → RestsStream x.attempt.watched
+  nowhere : is_some x.attempt.stream ≡ false → (not x.attempt.reads && not x.attempt.writes) ≡ true → RestsStream x.attempt.watched
   nowhere off h = record {
     unread = λ some. not_true x.attempt.reads (both_true _ _ h).0;
     unsent = λ unsent. not_true x.attempt.writes (both_true _ _ h).1;
-    watches = λ there. on_off (is_some x.attempt.peer) there off;
+    watches = λ there. on_off (is_some x.attempt.stream) there off;
   }
 
-  stream_by : (b : Bool) → is_some x.attempt.peer ≡ b → (if b then rests_watched Sent x.attempt x.attempt.watched else not x.attempt.reads && not x.attempt.writes) ≡ true → is_watched_as i x.attempt.watched ≡ true
+  stream_by : (b : Bool) → is_some x.attempt.stream ≡ b → (if b then rests_watched Sent x.attempt x.attempt.watched else not x.attempt.reads && not x.attempt.writes) ≡ true → is_watched_as i x.attempt.watched ≡ true
       → RestsStream x.attempt.watched
   stream_by true is h k = streams x.attempt.watched h k
   stream_by false is h k = nowhere is h
@@ -199,7 +199,7 @@ module _ (s : Shown) (until : Option ℕ) (i : ℕ) (x : AskingState) (begins : 
       let c = both_true _ _ b.1 in
       let d = both_true _ _ c.1 in
       let e = both_true _ _ a.0 in
-      let stream = stream_by (is_some x.attempt.peer) refl e.1 b.0 in record {
+      let stream = stream_by (is_some x.attempt.stream) refl e.1 b.0 in record {
         wanted = d.1;
         goes_on = not_true (is_some x.end) e.0;
         limited = (at_most until x.job.job.deadline d.0, at_most until (until_of x.attempt) c.0);
@@ -221,7 +221,7 @@ as_many f slots n le = rw (shown_none f slots) le
 
 -- each of these was asked for so
 pub all_asking : (s : Shown) (until : Option ℕ) (slots : List (Option AskingState))
-    → ((i : ℕ) (x : AskingValue) → asked_at i (map (λ (o : Option AskingState). option_map asked_for o) slots) ≡ Some x → IsPrefixOf x.got (request_of x.job))
+    → ((i : ℕ) (x : AskingValue) → asked_at i (map (λ (o : Option AskingState). option_map asked_for o) slots) ≡ Some x → IsPrefixOf (got_for x) (request_of x.job))
     → ((i : ℕ) (x : AskingState) → slice_index_or slots i None ≡ Some x → HasUntouched x)
     → ((i : ℕ) (x : AskingState) → slice_index_or slots i None ≡ Some x → rests_asking s until i x ≡ true)
     → (i : ℕ) (x : AskingValue) → asked_at i (map (λ (o : Option AskingState). option_map asked_for o) slots) ≡ Some x → RestsAsking s until i x
@@ -238,11 +238,11 @@ all_asking s until slots begins untouched rest i x is = by_slot (slice_index_or 
     by_slot (Some y) at_it =
         let same = some_is (asked_for y) (sym (shown_at slots i ∙ ap (λ (p : Option AskingState). option_map asked_for p) at_it) ∙ is) in
         subst (λ (z : AskingValue). RestsAsking s until i z) same
-        (asking_rests s until i y (subst (λ (z : AskingValue). IsPrefixOf z.got (request_of z.job)) (sym same) (begins i x is)) (untouched i y at_it) (rest i y at_it))
+        (asking_rests s until i y (subst (λ (z : AskingValue). IsPrefixOf (got_for z) (request_of z.job)) (sym same) (begins i x is)) (untouched i y at_it) (rest i y at_it))
 
 -- each of these that has no stream waits for its name
 pub all_named : (waits : List (List ℕ)) (slots : List (Option AskingState)) → ((i : ℕ) (x : AskingState) → slice_index_or slots i None ≡ Some x → is_named waits x ≡ true)
-    → (i : ℕ) (x : AskingValue) → asked_at i (map (λ (o : Option AskingState). option_map asked_for o) slots) ≡ Some x → x.peer ≡ None → Contains waits x.job.address
+    → (i : ℕ) (x : AskingValue) → asked_at i (map (λ (o : Option AskingState). option_map asked_for o) slots) ≡ Some x → x.stream ≡ None → Contains waits x.job.address
 all_named waits slots named i x is = by_slot (slice_index_or slots i None) refl
   where
     nobody : None ≡ Some x → ⊥
@@ -251,17 +251,17 @@ all_named waits slots named i x is = by_slot (slice_index_or slots i None) refl
     some_is : (y : AskingValue) → Some y ≡ Some x → y ≡ x
     some_is y e = cc
 
-    without : (o : Option SocketAddr) (b : Bool) → (is_some o || b) ≡ true → o ≡ None → b ≡ true
-    without o b h none = sym (ap (λ (p : Option SocketAddr). is_some p || b) none) ∙ h
+    without : (o : Option StreamValue) (b : Bool) → (is_some o || b) ≡ true → o ≡ None → b ≡ true
+    without o b h none = sym (ap (λ (p : Option StreamValue). is_some p || b) none) ∙ h
 
-    by_state : (y : AskingState) → is_named waits y ≡ true → (asked_for y).peer ≡ None → Contains waits (asked_for y).job.address
-    by_state y h none = among_there y.job.job.address waits (without y.attempt.peer (is_among y.job.job.address waits) h none)
+    by_state : (y : AskingState) → is_named waits y ≡ true → (asked_for y).stream ≡ None → Contains waits (asked_for y).job.address
+    by_state y h none = among_there y.job.job.address waits (without y.attempt.stream (is_among y.job.job.address waits) h none)
 
-    by_slot : (o : Option AskingState) → slice_index_or slots i None ≡ o → x.peer ≡ None → Contains waits x.job.address
+    by_slot : (o : Option AskingState) → slice_index_or slots i None ≡ o → x.stream ≡ None → Contains waits x.job.address
     by_slot None at_it none = absurd (nobody (sym (shown_at slots i ∙ ap (λ (p : Option AskingState). option_map asked_for p) at_it) ∙ is))
     by_slot (Some y) at_it none =
         let same = some_is (asked_for y) (sym (shown_at slots i ∙ ap (λ (p : Option AskingState). option_map asked_for p) at_it) ∙ is) in
-        subst (λ (z : AskingValue). z.peer ≡ None → Contains waits z.job.address) same (by_state y (named i y at_it)) none
+        subst (λ (z : AskingValue). z.stream ≡ None → Contains waits z.job.address) same (by_state y (named i y at_it)) none
 
 -- the next turn is due at that moment, or not before something comes
 pub due_at : (until : Option ℕ) (now moment : ℕ) → due_by until now ≡ At moment → until ≡ Some moment

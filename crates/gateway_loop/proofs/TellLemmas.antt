@@ -36,7 +36,7 @@ told_beside r u v w rest told =
     ∙ ap (λ (c : List ClosedValue). record (tell r u) { closing = c }) (sym (ap (λ (x : WholeLoop). x.closing) told ∙ tell_closing_in (r.token % 2 == 0) r v))
 
 pub continues_beside : (v w : WholeLoop) (closing : List ClosedValue) → ContinuesLoop (record v { closing = closing }) w → ContinuesLoop v w
-continues_beside v w closing c = record { framing = c.framing; side = c.side; asking = λ i x is. since i x (c.asking i x is); ended = c.ended; looked_up = c.looked_up }
+continues_beside v w closing c = record { framing = c.framing; side = c.side; asking = λ i x is. since i x (c.asking i x is); ended = c.ended; left = c.left; looked_up = c.looked_up }
   where
     since : (i : ℕ) (x : AskingValue) → (y : AskingValue) × ((asked_at i w.asking ≡ Some y) ⊎ HasEndedSince (record v { closing = closing }) w y) × AsksOn x y
         → (y : AskingValue) × ((asked_at i w.asking ≡ Some y) ⊎ HasEndedSince v w y) × AsksOn x y

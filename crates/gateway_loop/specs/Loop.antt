@@ -6,21 +6,22 @@ use Rattle.connect_codec.specs.declared.answer.Outcome.{Outcome}
 use Rattle.http_pieces.specs.declared.framing.Framing.{Framing}
 use Rattle.loop_model.specs.Accounts.{AccountsOn, NetworkValue}
 use Rattle.loop_model.specs.Asking.{AskingValue, ended_value}
-use Rattle.loop_model.specs.Streams.{ClosedValue}
+use Rattle.loop_model.specs.Streams.{ClosedValue, StreamValue}
 use Rattle.loop_model.specs.Explained.{LoopValue}
 use Rattle.loop_model.specs.Found.{FoundValue}
 use Rattle.loop_model.specs.Whole.{ContinuesLoop, WholeLoop}
-use Rattle.branch_asking.specs.Asking.{AskingState, asked_for}
+use Rattle.branch_asking.specs.Asking.{AskingState, asked_for, got_by}
 use Rattle.gateway_loop.specs.Clients.{Starts}
 
--- the streams that wait for their backends' ends, what was found for names, and the names that are waited for
+-- the streams that jobs have left, those that wait for their backends' ends, what was found for names, and the names that are waited for
 pub record Beside : Type 0 where
+  pub left : List StreamValue
   pub closing : List ClosedValue
   pub looked_up : List FoundValue
   pub waits : List (List ℕ)
 
-abbrev pub beside : List ClosedValue → List FoundValue → List (List ℕ) → Beside
-beside closing looked_up waits = record { closing = closing; looked_up = looked_up; waits = waits }
+abbrev pub beside : List StreamValue → List ClosedValue → List FoundValue → List (List ℕ) → Beside
+beside left closing looked_up waits = record { left = left; closing = closing; looked_up = looked_up; waits = waits }
 
 abbrev pub whole_loop : Framing → LoopValue → List (Option AskingState) → List (AskingState × Option Outcome) → Beside → WholeLoop
 whole_loop framing side asking ended beside = record {
@@ -28,6 +29,7 @@ whole_loop framing side asking ended beside = record {
   side = side;
   asking = map (λ (o : Option AskingState). option_map asked_for o) asking;
   ended = map (λ (e : AskingState × Option Outcome). ended_value (asked_for e.0) e.1) ended;
+  left = beside.left;
   closing = beside.closing;
   looked_up = beside.looked_up;
   waits = beside.waits;
@@ -35,7 +37,7 @@ whole_loop framing side asking ended beside = record {
 
 -- the reply to it may be framed so, and nothing was written to a stream that has not taken a byte
 abbrev pub IsFramed : Framing → AskingState → Type 0
-IsFramed framing x = (x.framing ≡ framing) × (x.attempt.connected ≡ false → x.attempt.got ≡ [])
+IsFramed framing x = (x.framing ≡ framing) × (x.attempt.connected ≡ false → got_by x.attempt.stream ≡ [])
 
 -- .. of all that are asked for
 abbrev pub AreFramed : Framing → List (Option AskingState) → Type 0
@@ -46,6 +48,7 @@ pub record StartsLoop (w : WholeLoop) : Type 0 where
   pub side : Starts w.side
   pub none_asked : w.asking ≡ []
   pub none_ended : w.ended ≡ []
+  pub none_left : w.left ≡ []
   pub none_closing : w.closing ≡ []
   pub none_found : w.looked_up ≡ []
   pub none_waits : w.waits ≡ []

@@ -59,7 +59,7 @@ rests_asking s until place x =
 
 -- it has a stream, or its name is among these
 abbrev pub is_named : List (List ℕ) → AskingState → Bool
-is_named waits x = is_some x.attempt.peer || is_among x.job.job.address waits
+is_named waits x = is_some x.attempt.stream || is_among x.job.job.address waits
 
 abbrev pub AllRest : Option ℕ → LoopValue → Type 0
 AllRest until l = (i : ℕ) (x : ClientValue) → at i l.clients ≡ Some x → RestsClient (shown l.core) until i x
@@ -70,7 +70,7 @@ WaitsForPlace w = ((shown w.side.core).waiting ≡ []) ⊎ (1024 ≤ count_by is
 
 -- each job that has no stream waits for its name
 abbrev pub AllNamed : WholeLoop → Type 0
-AllNamed w = (i : ℕ) (x : AskingValue) → asked_at i w.asking ≡ Some x → x.peer ≡ None → Contains w.waits x.job.address
+AllNamed w = (i : ℕ) (x : AskingValue) → asked_at i w.asking ≡ Some x → x.stream ≡ None → Contains w.waits x.job.address
 
 abbrev pub AllAskingRest : Option ℕ → WholeLoop → Type 0
 AllAskingRest until w = (i : ℕ) (x : AskingValue) → asked_at i w.asking ≡ Some x → RestsAsking (shown w.side.core) until i x

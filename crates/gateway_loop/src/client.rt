@@ -4,12 +4,13 @@ ghost use Rattle.loop_model.specs.Accounts.{closed_client};
 ghost use Rattle.loop_model.specs.Clients.{client_value};
 ghost use Rattle.loop_model.specs.Growing.{Grows};
 ghost use Rattle.loop_model.specs.Reports.{told_client};
-ghost use Rattle.loop_model.specs.Streams.{closed_value};
+ghost use Rattle.loop_model.specs.Streams.{closed_turns};
 ghost use Rattle.gateway_loop.specs.Clients.{FitsOn, MakesSteps, lingering, watched_by};
 ghost use Rattle.gateway_model.specs.declared.event.Event.TheVariants.{HangUp, Piece};
 ghost use Rattle.gateway_loop.specs.Rests.{is_watched, is_written, rests_client, waits_client};
 ghost use Rattle.gateway_theory.specs.Told.{AddsEvent, TakesEvent};
 ghost use Rattle.gateway_theory.specs.Values.{shown};
+ghost use Rattle.wires.specs.Turns.{ended_of, given_of, got_of};
 
 use crate::hints::Hints;
 use crate::limits::{MOST_WRITES, is_not_after};
@@ -41,12 +42,13 @@ pub(crate) struct Client<W: Wire> {
 impl<W: Wire> Model for Client<W> {
     ghost use Rattle.std.specs.Prelude.{◌≡◌, None};
     ghost use Rattle.loop_model.specs.Clients.{ClientValue, client_value};
+    ghost use Rattle.wires.specs.Turns.{ended_of, given_of, got_of};
 
     ghost Value = { ClientValue };
 
-    ghost view = { λ c. client_value c.conn c.lingers (W.given c.wire) (W.got c.wire) (W.ended c.wire) c.outbox (W.reads c.wire) (W.writes c.wire) (W.watched c.wire) (W.reported c.wire) c.until };
+    ghost view = { λ c. client_value c.conn c.lingers (given_of (W.turns c.wire)) (got_of (W.turns c.wire)) (ended_of (W.turns c.wire)) c.outbox (W.reads c.wire) (W.writes c.wire) (W.watched c.wire) (W.reported c.wire) c.until };
 
-    ghost invariant = { λ c. (W.ended c.wire ≡ c.has_ended) × (W.peer c.wire ≡ None) };
+    ghost invariant = { λ c. (ended_of (W.turns c.wire) ≡ c.has_ended) × (W.peer c.wire ≡ None) };
 }
 
 /// What reading a client's stream came to.
@@ -80,9 +82,9 @@ impl<W: Wire> Client<W> {
 
     /// The client of a new connection.
     pub(crate) fn new(alloc: Global, wire: W, conn: ConnId) -> Client<W>
-        requires ended { W.ended wire ≡ false }
+        requires ended { ended_of (W.turns wire) ≡ false }
         requires peer { W.peer wire ≡ None }
-        ensures { result ≡ client_value conn false (W.given wire) (W.got wire) (W.ended wire) [] (W.reads wire) (W.writes wire) (W.watched wire) (W.reported wire) None }
+        ensures { result ≡ client_value conn false (given_of (W.turns wire)) (got_of (W.turns wire)) (ended_of (W.turns wire)) [] (W.reads wire) (W.writes wire) (W.watched wire) (W.reported wire) None }
     {
         Client {
             wire,
@@ -130,7 +132,7 @@ impl<W: Wire> Client<W> {
 
     /// Its stream, which is left.
     pub(crate) fn into_wire(self) -> W
-        ensures { closed_value (W.peer result) (W.given result) (W.got result) ≡ closed_client self }
+        ensures { closed_turns (W.peer result) (W.turns result) ≡ closed_client self }
     {
         self.wire
     }

@@ -9,6 +9,7 @@ ghost use Rattle.loop_model.specs.Histories.{IsExplained};
 ghost use Rattle.loop_model.specs.Holding.{Holds};
 ghost use Rattle.loop_model.specs.Reports.{changed_at, told_client};
 ghost use Rattle.loop_model.specs.Standing.{count_clients, count_lingering};
+ghost use Rattle.wires.specs.Turns.{ended_of, given_of, got_of};
 
 use crate::client::{Client, Heard, Written};
 use crate::comings::Dealt;
@@ -50,16 +51,16 @@ pub(crate) struct Clients<H, W: Wire> {
 impl<H, W: Wire> Model for Clients<H, W> {
     ghost use Rattle.std.specs.Prelude.{map};
     ghost use Rattle.loop_model.specs.Explained.{LoopValue};
-    ghost use Rattle.loop_model.specs.Streams.{closed_value};
+    ghost use Rattle.loop_model.specs.Streams.{closed_turns};
     ghost use Rattle.gateway_loop.specs.Clients.{IsServing, loop_value};
 
     ghost Value = { LoopValue };
 
     ghost view = { λ l. loop_value l.core l.clients.slots l.gone.items
-        (map (λ u. closed_value (W.peer u.0) (W.given u.0) (W.got u.0)) l.unserved.items) l.told.items l.results.items l.handed.items l.drained };
+        (map (λ u. closed_turns (W.peer u.0) (W.turns u.0)) l.unserved.items) l.told.items l.results.items l.handed.items l.drained };
 
     ghost invariant = { λ l. IsServing l.moment (loop_value l.core l.clients.slots l.gone.items
-        (map (λ u. closed_value (W.peer u.0) (W.given u.0) (W.got u.0)) l.unserved.items) l.told.items l.results.items l.handed.items l.drained) };
+        (map (λ u. closed_turns (W.peer u.0) (W.turns u.0)) l.unserved.items) l.told.items l.results.items l.handed.items l.drained) };
 }
 
 impl<H: ReplyHook + Drop, W: Wire + Drop> Clients<H, W> {
@@ -110,7 +111,7 @@ impl<H: ReplyHook + Drop, W: Wire + Drop> Clients<H, W> {
 
     /// Closes a stream that is not taken in.
     fn turn_away<N: Network<W>>(&mut self, net: &mut N, wire: W)
-        requires { IsFresh (W.peer wire) (W.given wire) (W.got wire) (W.ended wire) }
+        requires { IsFresh (W.peer wire) (given_of (W.turns wire)) (got_of (W.turns wire)) (ended_of (W.turns wire)) }
         ensures goes { Onward self.old self.new }
         ensures takes { TakesIn (N.value net.old) (N.value net.new) self.old self.new }
         ensures hands { HandsNothing self.old self.new }

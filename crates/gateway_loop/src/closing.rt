@@ -1,6 +1,6 @@
 ghost use Rattle.std.specs.Prelude.{length, map, option_to_list, ◌≡◌, ◌-◌, ◌∷◌, ◌++◌, []};
 ghost use Rattle.gateway_loop.specs.Closing.{ClosesFrom, IsNone};
-ghost use Rattle.loop_model.specs.Streams.{closed_value};
+ghost use Rattle.loop_model.specs.Streams.{closed_turns};
 
 use crate::limits::MOST_CLOSING;
 use branch_asking::Network;
@@ -35,16 +35,16 @@ struct ClosingStream<W: Wire> {
 }
 
 impl<W: Wire> Model for ClosingStream<W> {
-    ghost use Rattle.loop_model.specs.Streams.{ClosedValue, closed_value};
+    ghost use Rattle.loop_model.specs.Streams.{ClosedValue, closed_turns};
 
     ghost Value = { ClosedValue };
 
-    ghost view = { λ s. closed_value (W.peer s.stream) (W.given s.stream) (W.got s.stream) };
+    ghost view = { λ s. closed_turns (W.peer s.stream) (W.turns s.stream) };
 }
 
 impl<W: Wire> ClosingStream<W> {
     fn into_wire(self) -> W
-        ensures { closed_value (W.peer result) (W.given result) (W.got result) ≡ self }
+        ensures { closed_turns (W.peer result) (W.turns result) ≡ self }
     {
         self.stream
     }
@@ -71,7 +71,7 @@ impl<W: Wire + Drop> ClosingStreams<W> {
     /// is no memory, this one is.
     fn keep<N: Network<W>>(&mut self, net: &mut N, stream: W, token: usize, until: u64)
         ensures { ClosesFrom (N.value net.old) (N.value net.new)
-            (closed_value (W.peer stream) (W.given stream) (W.got stream) ∷ self.old) self.new }
+            (closed_turns (W.peer stream) (W.turns stream) ∷ self.old) self.new }
     {
         if self.waiting.len() >= MOST_CLOSING {
             self.close_first(net);
@@ -86,21 +86,17 @@ impl<W: Wire + Drop> ClosingStreams<W> {
         }
     }
 
-    /// A stream is left, if there was one. It waits until then, if it is to, and else it is closed.
+    /// A stream is left. It waits until then, if it is to, and else it is closed.
     pub(crate) fn put<N: Network<W>>(
         &mut self,
         net: &mut N,
-        stream: Option<W>,
+        stream: W,
         waits: bool,
         token: usize,
         until: u64,
     )
-        ensures { ClosesFrom (N.value net.old) (N.value net.new)
-            (map (λ w. closed_value (W.peer w) (W.given w) (W.got w)) (option_to_list stream) ++ self.old) self.new }
+        ensures { ClosesFrom (N.value net.old) (N.value net.new) (closed_turns (W.peer stream) (W.turns stream) ∷ self.old) self.new }
     {
-        let Some(stream) = stream else {
-            return;
-        };
         if waits {
             self.keep(net, stream, token, until);
         } else {

@@ -16,28 +16,30 @@ pub struct Dealt<H, W: Wire> {
 
 impl<H, W: Wire> Model for Dealt<H, W> {
     ghost use Rattle.gateway_loop.specs.Clients.{IsFresh};
+    ghost use Rattle.wires.specs.Turns.{ended_of, given_of, got_of};
 
     ghost Value = { Unit {0} };
 
     ghost view = { λ d. tt };
 
-    ghost invariant = { λ d. IsFresh (W.peer d.wire) (W.given d.wire) (W.got d.wire) (W.ended d.wire) };
+    ghost invariant = { λ d. IsFresh (W.peer d.wire) (given_of (W.turns d.wire)) (got_of (W.turns d.wire)) (ended_of (W.turns d.wire)) };
 }
 
 impl<H, W: Wire> Dealt<H, W> {
     ghost use Rattle.gateway_loop.specs.Clients.{IsFresh};
+    ghost use Rattle.wires.specs.Turns.{ended_of, given_of, got_of};
 
     pub fn new(wire: W, stock: Stock<H>) -> Dealt<H, W>
-        requires given { W.given wire ≡ [] }
-        requires got { W.got wire ≡ [] }
-        requires ended { W.ended wire ≡ false }
+        requires given { given_of (W.turns wire) ≡ [] }
+        requires got { got_of (W.turns wire) ≡ [] }
+        requires ended { ended_of (W.turns wire) ≡ false }
         requires peer { W.peer wire ≡ None }
     {
         Dealt { wire, stock }
     }
 
     pub(crate) fn into_parts(self) -> (W, Stock<H>)
-        ensures { IsFresh (W.peer result.0) (W.given result.0) (W.got result.0) (W.ended result.0) }
+        ensures { IsFresh (W.peer result.0) (given_of (W.turns result.0)) (got_of (W.turns result.0)) (ended_of (W.turns result.0)) }
     {
         let Dealt { wire, stock } = self;
         (wire, stock)

@@ -16,7 +16,7 @@ use crate::limits::{MOST_CLIENTS, MOST_EXCHANGES};
 use crate::names::Names;
 use crate::next_turn::NextTurn;
 use crate::unasked::Unasked;
-use branch_asking::Asking;
+use branch_asking::{Asking, Backend};
 use call_plan::Plans;
 use connect_codec::Outcome;
 use gateway_core::{ReplyHook, Tally};
@@ -57,8 +57,10 @@ pub struct EventLoop<H, W: Wire> {
     pub(crate) places: usize,
     // the streams that wait for their backends' ends
     pub(crate) closing: ClosingStreams<W>,
-    // for proofs: those that ended, each with the outcome that was recorded, and what was found for names
+    // for proofs: those that ended, each with the outcome that was recorded, the streams that they left, and what was
+    // found for names
     pub(crate) ended: Log<Asking<W>, Option<Outcome>>,
+    pub(crate) left: Log<Backend<W>, ()>,
     pub(crate) looked_up: Log<LookedUp, bool>,
     pub(crate) names: Names,
     pub(crate) ends: Ends,
@@ -76,9 +78,9 @@ impl<H, W: Wire> Model for EventLoop<H, W> {
 
     ghost Value = { WholeLoop };
 
-    ghost view = { λ l. whole_loop l.framing l.clients l.asking.slots l.ended.items (beside l.closing (map (λ f. f.0) l.looked_up.items) l.names) };
+    ghost view = { λ l. whole_loop l.framing l.clients l.asking.slots l.ended.items (beside (map (λ s. s.0.stream) l.left.items) l.closing (map (λ f. f.0) l.looked_up.items) l.names) };
 
-    ghost invariant = { λ l. AsksFairly (whole_loop l.framing l.clients l.asking.slots l.ended.items (beside [] (map (λ f. f.0) l.looked_up.items) []))
+    ghost invariant = { λ l. AsksFairly (whole_loop l.framing l.clients l.asking.slots l.ended.items (beside (map (λ s. s.0.stream) l.left.items) [] (map (λ f. f.0) l.looked_up.items) []))
         × AreFramed l.framing l.asking.slots };
 }
 
@@ -104,6 +106,7 @@ impl<H: ReplyHook + Drop, W: Wire + Drop> EventLoop<H, W> {
             clients: Clients::new(alloc, plans)?,
             closing: ClosingStreams::new(alloc)?,
             ended: Log::new(),
+            left: Log::new(),
             looked_up: Log::new(),
         })
     }

@@ -76,12 +76,11 @@ impl<H: ReplyHook + Drop, W: Wire + Drop> EventLoop<H, W> {
     pub(crate) fn watch_stream<N: Network<W>>(&mut self, net: &mut N, place: usize) -> bool
         ensures goes { Goes (N.value net.old) (N.value net.new) self.old self.new }
     {
-        let Some(mut asking) = self.asking.try_remove(place) else {
+        let Some(asking) = self.asking.get_mut(place) else {
             return false;
         };
         let is_watched = asking.watch(net, exchange_token(place));
         asking.begun_law();
-        let _place = self.asking.insert_reserved(asking);
         is_watched
     }
 
@@ -105,12 +104,11 @@ impl<H: ReplyHook + Drop, W: Wire + Drop> EventLoop<H, W> {
     pub(crate) fn step(&mut self, place: usize) -> Progress
         ensures goes { GoesAlone self.old self.new }
     {
-        let Some(mut asking) = self.asking.try_remove(place) else {
+        let Some(asking) = self.asking.get_mut(place) else {
             return Progress::Waits;
         };
         let progress = asking.step();
         asking.begun_law();
-        let _place = self.asking.insert_reserved(asking);
         progress
     }
 
@@ -119,12 +117,11 @@ impl<H: ReplyHook + Drop, W: Wire + Drop> EventLoop<H, W> {
     pub(crate) fn connect<N: Network<W>>(&mut self, net: &mut N, place: usize) -> bool
         ensures goes { Goes (N.value net.old) (N.value net.new) self.old self.new }
     {
-        let Some(mut asking) = self.asking.try_remove(place) else {
+        let Some(asking) = self.asking.get_mut(place) else {
             return false;
         };
         let connected = asking.connect(net);
         asking.begun_law();
-        let _place = self.asking.insert_reserved(asking);
         connected
     }
 
@@ -132,12 +129,11 @@ impl<H: ReplyHook + Drop, W: Wire + Drop> EventLoop<H, W> {
     pub(crate) fn has_address(&mut self, place: usize) -> bool
         ensures goes { GoesAlone self.old self.new }
     {
-        let Some(mut asking) = self.asking.try_remove(place) else {
+        let Some(asking) = self.asking.get_mut(place) else {
             return false;
         };
         let has_address = asking.has_address();
         asking.begun_law();
-        let _place = self.asking.insert_reserved(asking);
         has_address
     }
 
@@ -168,12 +164,10 @@ impl<H: ReplyHook + Drop, W: Wire + Drop> EventLoop<H, W> {
     pub(crate) fn note_loss(&mut self, place: usize, loss: Option<Loss>)
         ensures goes { GoesAlone self.old self.new }
     {
-        let Some(mut asking) = self.asking.try_remove(place) else {
-            return;
-        };
-        asking.lose(loss);
-        asking.begun_law();
-        let _place = self.asking.insert_reserved(asking);
+        if let Some(asking) = self.asking.get_mut(place) {
+            asking.lose(loss);
+            asking.begun_law();
+        }
     }
 
     /// Records what came of the exchange in that place, which leaves it: that, and what was noted of it. Its stream waits
@@ -193,17 +187,17 @@ impl<H: ReplyHook + Drop, W: Wire + Drop> EventLoop<H, W> {
         let outcome = asking.conclude(self.alloc);
         let cause = cause.settled(&outcome);
         self.ended = self.ended.and(&asking, &outcome);
-        let (job, errand, stream) = asking.into_parts();
+        let (job, errand, stream) = asking.into_parts(&outcome);
         self.clients.record(&job, outcome);
         let moment = self.clients.moment();
         let waits = is_whole && !errand.has_ended;
-        self.closing.put(
-            net,
-            stream,
-            waits,
-            exchange_token(place),
-            moment.saturating_add(CLOSING),
-        );
+        if let Some(stream) = stream {
+            self.left = self.left.and(&stream, &());
+            let until = moment.saturating_add(CLOSING);
+            let token = exchange_token(place);
+            self.closing
+                .put(net, stream.into_wire(), waits, token, until);
+        }
         let end = BranchEnd {
             job,
             cause,
@@ -268,12 +262,10 @@ impl<H: ReplyHook + Drop, W: Wire + Drop> EventLoop<H, W> {
     pub(crate) fn set_until(&mut self, place: usize, until: Option<u64>)
         ensures goes { GoesAlone self.old self.new }
     {
-        let Some(mut asking) = self.asking.try_remove(place) else {
-            return;
-        };
-        asking.set_until(until);
-        asking.begun_law();
-        let _place = self.asking.insert_reserved(asking);
+        if let Some(asking) = self.asking.get_mut(place) {
+            asking.set_until(until);
+            asking.begun_law();
+        }
     }
 
     /// The exchange in that place waits for its name under this number, or no more.

@@ -3,12 +3,12 @@ use Rattle.std.specs.Prelude.{◌≡◌, ℕ, ◌+◌, Bool, true, List, [], ◌
 use Rattle.std.specs.List.{Contains}
 use Rattle.std.specs.Option.{option_map_or}
 use Rattle.std.specs.declared.net.socket_addr.SocketAddr.{SocketAddr}
-use Rattle.loop_model.specs.Asking.{AskingValue, EndedValue, StreamValue, peers_of}
+use Rattle.loop_model.specs.Asking.{AskingValue, EndedValue, peers_of, streams_for}
 use Rattle.loop_model.specs.Clients.{ClientValue}
 use Rattle.loop_model.specs.Explained.{LoopValue}
 use Rattle.loop_model.specs.Found.{FoundValue, IsAwaited, LookUp, asked_in, found_in}
 use Rattle.loop_model.specs.Standing.{count_clients}
-use Rattle.loop_model.specs.Streams.{ClosedValue, closed_value}
+use Rattle.loop_model.specs.Streams.{ClosedValue, closed_stream, closed_turns, closed_value}
 use Rattle.loop_model.specs.Whole.{WholeLoop}
 use Rattle.wires.specs.Telling.{ToldValue}
 
@@ -26,7 +26,7 @@ abbrev pub network_value : {A : Type 0} → List (ℕ × A) → List (SocketAddr
 network_value told made closed asked = record {
   told = map (λ x. x.0) told;
   made = map (λ x. x.0) made;
-  closed = map (λ x. closed_value x.0.peer x.0.given x.0.got) closed;
+  closed = map (λ x. closed_turns x.0.peer x.0.turns) closed;
   asked = asked;
 }
 
@@ -47,24 +47,18 @@ first_account a = record { before = a; dealt = 0; lookups = [] }
 
 -- ---- what the loop's lists say
 
--- the streams that were given up for a job, and then the one that it went over
-abbrev pub closed_stream : StreamValue → ClosedValue
-closed_stream s = closed_value (Some s.peer) s.given s.got
-
+-- the streams that were given up for a job, as they were closed
 abbrev pub streams_before : AskingValue → List ClosedValue
 streams_before x = map closed_stream x.tried
-
-abbrev pub stream_now : AskingValue → List ClosedValue
-stream_now x = option_map_or (λ (peer : SocketAddr). closed_value (Some peer) x.given x.got ∷ []) x.peer []
 
 -- how many streams to such addresses were made for its jobs, those that are asked for and those that were
 abbrev pub count_made : (SocketAddr → Bool) → WholeLoop → ℕ
 count_made p w =
-    sum_by (λ (o : Option AskingValue). option_map_or (λ (x : AskingValue). count_by p (peers_of x.tried x.peer)) o 0) w.asking
-    + sum_by (λ (e : EndedValue). count_by p (peers_of e.asking.tried e.asking.peer)) w.ended
+    sum_by (λ (o : Option AskingValue). option_map_or (λ (x : AskingValue). count_by p (peers_of (streams_for x))) o 0) w.asking
+    + sum_by (λ (e : EndedValue). count_by p (peers_of e.asking.tried)) w.ended + count_by p (peers_of w.left)
 
 -- how many such streams its clients and jobs have left: of clients that have gone, of those that were not taken in,
--- those that were given up for jobs, and those over which jobs went that have ended
+-- those that were given up for jobs, and those that jobs have left
 abbrev pub closed_client : ClientValue → ClosedValue
 closed_client x = closed_value None x.given x.got
 
@@ -74,7 +68,7 @@ count_gone p l = count_by (λ (x : ClientValue). p (closed_client x)) l.gone + c
 abbrev pub count_left : (ClosedValue → Bool) → WholeLoop → ℕ
 count_left p w =
     count_gone p w.side + sum_by (λ (o : Option AskingValue). option_map_or (λ (x : AskingValue). count_by p (streams_before x)) o 0) w.asking
-    + sum_by (λ (e : EndedValue). count_by p (streams_before e.asking ++ stream_now e.asking)) w.ended
+    + sum_by (λ (e : EndedValue). count_by p (streams_before e.asking)) w.ended + count_by p (map closed_stream w.left)
 
 -- how many streams came to it: of clients that are there, that have gone, and that were not taken in
 abbrev pub count_dealt : LoopValue → ℕ

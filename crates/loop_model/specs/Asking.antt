@@ -1,5 +1,6 @@
 -- A job that is asked for, and how that ended.
 use Rattle.std.specs.Prelude.{◌≡◌, ◌⊎◌, ℕ, Bool, All, List, [], ◌∷◌, ◌++◌, map, Option, Some, None, option_to_list}
+use Rattle.std.specs.Option.{option_map_or}
 use Rattle.std.specs.Net.Grammar.{IsSocketText}
 use Rattle.std.specs.declared.net.socket_addr.SocketAddr.{SocketAddr}
 use Rattle.connect_codec.specs.BranchRequest.{branch_request}
@@ -11,29 +12,18 @@ use Rattle.http_pieces.specs.Cut.{Complete, IsCut}
 use Rattle.http_pieces.specs.ReplyHead.{reply_kind}
 use Rattle.http_pieces.specs.declared.framing.Framing.{Framing}
 use Rattle.http_pieces.specs.declared.reply.HttpReply.{HttpReply}
+use Rattle.loop_model.specs.Streams.{StreamValue}
+use Rattle.wires.specs.Turns.{given_of, got_of}
 use Rattle.wires.specs.declared.ready.Ready.{Ready}
 
--- a stream to a backend: the address that it leads to, what was read from it, what was written to it, and whether a read found its end,
--- or failed
-pub record StreamValue : Type 0 where
-  pub peer : SocketAddr
-  pub given : List ℕ
-  pub got : List ℕ
-  pub ended : Bool
-
-abbrev pub stream_value : SocketAddr → List ℕ → List ℕ → Bool → StreamValue
-stream_value peer given got ended = record { peer = peer; given = given; got = got; ended = ended }
-
 -- a job that is asked for: whether its addresses are known, those that were found for its name, the streams that were given up before, and
--- the one that it goes over: the address that it leads to, what was read from it, and what was written to it; nothing, while there is none
+-- the one that it goes over, if there is one
 pub record AskingValue : Type 0 where
   pub job : JobValue
   pub known : Bool
   pub found : List SocketAddr
   pub tried : List StreamValue
-  pub peer : Option SocketAddr
-  pub given : List ℕ
-  pub got : List ℕ
+  pub stream : Option StreamValue
   -- by all that was reported of that stream and answered: whether a read may bring something, and whether a write may be taken
   pub reads : Bool
   pub writes : Bool
@@ -44,6 +34,17 @@ pub record AskingValue : Type 0 where
   pub until : Option ℕ
   -- whether it has ended, and its outcome is to be recorded
   pub over : Bool
+
+-- what was read for it from that stream, and what was written for it
+abbrev pub given_for : AskingValue → List ℕ
+given_for x = option_map_or (λ (s : StreamValue). given_of s.turns) x.stream []
+
+abbrev pub got_for : AskingValue → List ℕ
+got_for x = option_map_or (λ (s : StreamValue). got_of s.turns) x.stream []
+
+-- its streams, in the order in which it went over them
+abbrev pub streams_for : AskingValue → List StreamValue
+streams_for x = x.tried ++ option_to_list x.stream
 
 -- one that has ended, and the outcome that was recorded; None where there was no memory for one
 pub record EndedValue : Type 0 where
@@ -58,42 +59,42 @@ abbrev pub request_of : JobValue → List ℕ
 request_of job =
     branch_request (record { address = job.address; path = job.path; remaining = job.remaining; request_id = job.request_id; passed = job.passed; body = job.body })
 
--- nothing was read from the stream, or written to it
+-- nothing was read from the stream, or written to it, since the last share
 abbrev pub IsUntouched : StreamValue → Type 0
-IsUntouched s = (s.given ≡ []) × (s.got ≡ [])
+IsUntouched s = (given_of s.turns ≡ []) × (got_of s.turns ≡ [])
 
 -- the request was written whole, what was read begins with a reply, whose body may be framed so, and the outcome is that of this reply
 pub record IsAnswered (framing : Framing) (x : AskingValue) (o : Outcome) : Type 0 where
-  pub whole : x.got ≡ request_of x.job
+  pub whole : got_for x ≡ request_of x.job
   pub reply : HttpReply
   pub rest : List ℕ
-  pub begins : IsCut (reply_kind framing) x.given (Complete reply rest)
+  pub begins : IsCut (reply_kind framing) (given_for x) (Complete reply rest)
   pub outcome_is : o ≡ outcome_of (Some reply)
 
 -- no reply was lost: the request was not written whole, or what was read does not begin with a whole reply
 abbrev pub IsUnanswered : Framing → AskingValue → Type 0
 IsUnanswered framing x =
-    x.got ≡ request_of x.job → (reply : HttpReply) → ¬ ((rest : List ℕ) × IsCut (reply_kind framing) x.given (Complete reply rest))
+    got_for x ≡ request_of x.job → (reply : HttpReply) → ¬ ((rest : List ℕ) × IsCut (reply_kind framing) (given_for x) (Complete reply rest))
 
 -- these are the addresses of the text: the one that it spells, or those that were found for it
 abbrev pub AreAddressesOf : List ℕ → List SocketAddr → List SocketAddr → Type 0
 AreAddressesOf text found addresses = ((address : SocketAddr) × IsSocketText text address × (addresses ≡ address ∷ [])) ⊎ (addresses ≡ found)
 
--- the addresses that its streams lead to, in the order in which it went over them
-abbrev pub peers_of : List StreamValue → Option SocketAddr → List SocketAddr
-peers_of tried peer = map (λ (s : StreamValue). s.peer) tried ++ option_to_list peer
+-- the addresses that these streams lead to
+abbrev pub peers_of : List StreamValue → List SocketAddr
+peers_of streams = map (λ (s : StreamValue). s.peer) streams
 
--- its streams lead to the addresses of its job, one after the other and from the first on; while it has none, nothing was written
+-- its streams lead to the addresses of its job, one after the other and from the first on
 pub record IsAddressed (x : AskingValue) : Type 0 where
   pub later : List SocketAddr
-  pub in_order : AreAddressesOf x.job.address x.found (peers_of x.tried x.peer ++ later)
-  pub none : x.peer ≡ None → x.got ≡ []
+  pub in_order : AreAddressesOf x.job.address x.found (peers_of (streams_for x) ++ later)
 
--- nothing was written to a stream that was given up, and to the one that it goes over some first bytes of the job's request, and no others;
--- and they lead to addresses of the job, in order
+-- No job went over its streams before. Nothing was written to one that was given up, and to the one that it goes over some first bytes of the
+-- job's request, and no others; and they lead to addresses of the job, in order.
 pub record BeginsRequest (x : AskingValue) : Type 0 where
+  pub new : All (λ (s : StreamValue). s.before ≡ []) (streams_for x)
   pub untouched : All IsUntouched x.tried
-  pub prefix : IsPrefixOf x.got (request_of x.job)
+  pub prefix : IsPrefixOf (got_for x) (request_of x.job)
   pub addressed : IsAddressed x
 
 -- so it began, and its outcome is that of its reply, which may be framed so, or says that there is none

@@ -7,6 +7,7 @@ pub mod Histories
 pub mod Growing
 pub mod Standing
 pub mod Asking
+pub mod Shares
 pub mod Found
 pub mod Whole
 pub mod Rest

@@ -13,9 +13,9 @@ told_client r x = record x { reported = x.reported ++ r ∷ []; reads = x.reads 
 -- .. if it has one
 abbrev pub told_asking : Ready → AskingValue → AskingValue
 told_asking r x = record x {
-  reported = if is_some x.peer then x.reported ++ r ∷ [] else x.reported;
-  reads = is_some x.peer && (x.reads || is_to_read r);
-  writes = is_some x.peer && (x.writes || r.writable);
+  reported = if is_some x.stream then x.reported ++ r ∷ [] else x.reported;
+  reads = is_some x.stream && (x.reads || is_to_read r);
+  writes = is_some x.stream && (x.writes || r.writable);
 }
 
 -- whoever is in that place became so

@@ -3,7 +3,7 @@ use Rattle.std.specs.List.{Contains}
 use Rattle.std.specs.Prelude.{◌≡◌, ⊤, ◌⊎◌, ℕ, ◌≤◌, ◌+◌, ◌*◌, Bool, true, false, List, [], is_some, count_by, Option, Some, None}
 use Rattle.gateway_model.specs.Known.{Shown}
 use Rattle.gateway_theory.specs.Values.{shown}
-use Rattle.loop_model.specs.Asking.{AskingValue, request_of}
+use Rattle.loop_model.specs.Asking.{AskingValue, got_for, request_of}
 use Rattle.loop_model.specs.Clients.{ClientValue}
 use Rattle.loop_model.specs.Explained.{at}
 use Rattle.loop_model.specs.Whole.{WholeLoop, asked_at}
@@ -42,15 +42,15 @@ pub record RestsAsking (s : Shown) (until : Option ℕ) (i : ℕ) (x : AskingVal
   pub wanted : is_some (s.recorded x.job.call) ≡ true
   pub goes_on : x.over ≡ false
   pub limited : AtMost until x.job.deadline × AtMost until x.until
-  pub watched : is_some x.peer ≡ true → (writes : Bool) × (x.watched ≡ Some (2 * i + 1, writes)) × ((x.got ≡ request_of x.job → ⊥) → writes ≡ true)
-  pub unread : (x.got ≡ [] → ⊥) → x.reads ≡ false
-  pub unsent : (x.got ≡ request_of x.job → ⊥) → x.writes ≡ false
+  pub watched : is_some x.stream ≡ true → (writes : Bool) × (x.watched ≡ Some (2 * i + 1, writes)) × ((got_for x ≡ request_of x.job → ⊥) → writes ≡ true)
+  pub unread : (got_for x ≡ [] → ⊥) → x.reads ≡ false
+  pub unsent : (got_for x ≡ request_of x.job → ⊥) → x.writes ≡ false
 
 -- Nothing is to be done before that moment: for no client, and for no job that is asked for; one of these that has no stream waits for its
 -- name; a job waits only while all places are taken; and no deadline lies before it.
 pub record RestsTill (until : Option ℕ) (w : WholeLoop) : Type 0 where
   pub clients : (i : ℕ) (x : ClientValue) → at i w.side.clients ≡ Some x → RestsClient (shown w.side.core) until i x
   pub asking : (i : ℕ) (x : AskingValue) → asked_at i w.asking ≡ Some x → RestsAsking (shown w.side.core) until i x
-  pub named : (i : ℕ) (x : AskingValue) → asked_at i w.asking ≡ Some x → x.peer ≡ None → Contains w.waits x.job.address
+  pub named : (i : ℕ) (x : AskingValue) → asked_at i w.asking ≡ Some x → x.stream ≡ None → Contains w.waits x.job.address
   pub jobs : ((shown w.side.core).waiting ≡ []) ⊎ (1024 ≤ count_by is_some w.asking)
   pub deadline : AtMost until (shown w.side.core).deadline

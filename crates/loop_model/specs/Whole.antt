@@ -1,25 +1,26 @@
 -- A loop: its clients, and the exchanges with its backends.
-use Rattle.std.specs.Prelude.{◌≡◌, ◌⊎◌, ℕ, ◌+◌, Bool, false, All, List, ◌∷◌, ◌++◌, count_by, map, slice_index_or, Option, Some, None}
+use Rattle.std.specs.Prelude.{◌≡◌, ⊤, ◌⊎◌, ℕ, ◌+◌, ◌≤◌, Bool, false, All, List, [], ◌∷◌, ◌++◌, count_by, length, map, slice_index_or, sum_by, Option, Some, None}
 use Rattle.std.specs.Option.{option_map_or}
 use Rattle.connect_codec.specs.declared.answer.Outcome.{Outcome}
 use Rattle.gateway_model.specs.Job.{JobValue}
 use Rattle.gateway_model.specs.Queue.{IsPrefixOf}
 use Rattle.http_pieces.specs.declared.framing.Framing.{Framing}
-use Rattle.loop_model.specs.Asking.{AskingValue, BeginsRequest, EndedValue, IsFair, StreamValue, ended_value}
+use Rattle.loop_model.specs.Asking.{AskingValue, BeginsRequest, EndedValue, IsFair, ended_value}
 use Rattle.loop_model.specs.Explained.{LoopValue}
 use Rattle.loop_model.specs.Found.{AreOfName, FoundValue}
 use Rattle.loop_model.specs.Histories.{IsExplained}
 use Rattle.loop_model.specs.Growing.{Continues}
-use Rattle.loop_model.specs.Streams.{ClosedValue}
+use Rattle.loop_model.specs.Streams.{ClosedValue, ShareValue, StreamValue, share_value}
 
 -- what is seen of a loop: how replies of its backends may be framed, its clients' side, the jobs that are asked for, in their places, those
--- that were, in the order in which they ended, the streams that wait for their backends' ends, what was found for names and handed in, and
--- the names that it waits for
+-- that were, in the order in which they ended, the streams that jobs have left, of these those that wait for their backends' ends, what was
+-- found for names and handed in, and the names that it waits for
 pub record WholeLoop : Type 0 where
   pub framing : Framing
   pub side : LoopValue
   pub asking : List (Option AskingValue)
   pub ended : List EndedValue
+  pub left : List StreamValue
   pub closing : List ClosedValue
   pub looked_up : List FoundValue
   pub waits : List (List ℕ)
@@ -32,8 +33,24 @@ count_asked p asking = count_by (λ (o : Option AskingValue). option_map_or (λ 
 abbrev pub asked_at : ℕ → List (Option AskingValue) → Option AskingValue
 asked_at i asking = slice_index_or asking i None
 
+-- the share of its stream that a job had which has ended, if it went over one
+abbrev pub share_of : EndedValue → List ShareValue
+share_of e = option_map_or (λ (s : StreamValue). share_value e.asking.job s.turns e.outcome ∷ []) e.asking.stream []
+
+-- how many shares with the property these streams have
+abbrev pub count_shares : (ShareValue → Bool) → List StreamValue → ℕ
+count_shares p streams = sum_by (λ (s : StreamValue). count_by p s.before) streams
+
+-- Each share of the streams that jobs have left is that of one job that has ended, and of no other. No stream has two, and none had a turn
+-- since.
+pub record AreShared (ended : List EndedValue) (left : List StreamValue) : Type 0 where
+  pub shares : (p : ShareValue → Bool) → count_shares p left ≡ sum_by (λ (e : EndedValue). count_by p (share_of e)) ended
+  pub one : All (λ (s : StreamValue). length s.before ≤ 1) left
+  pub still : All (λ (s : StreamValue). s.turns ≡ []) left
+
 -- the results that were handed in are those of the exchanges that ended, in order, and each ended fairly; what was written of each that is
--- asked for begins its request; what was found for each was found for its name; and a job was taken as often as it has ended, or is asked for
+-- asked for begins its request; what was found for each was found for its name; a job was taken as often as it has ended, or is asked for; and
+-- the shares of the streams that were left are those of the jobs that ended
 pub record AsksFairly (w : WholeLoop) : Type 0 where
   pub results : w.side.results ≡ map (λ (e : EndedValue). (e.asking.job, e.outcome)) w.ended
   pub fair : All (IsFair w.framing) w.ended
@@ -41,6 +58,7 @@ pub record AsksFairly (w : WholeLoop) : Type 0 where
   pub found : (i : ℕ) (x : AskingValue) → asked_at i w.asking ≡ Some x → AreOfName x.job.address x.found w.looked_up
   pub found_ended : All (λ (e : EndedValue). AreOfName e.asking.job.address e.asking.found w.looked_up) w.ended
   pub jobs : (p : JobValue → Bool) → count_by p w.side.handed ≡ count_by (λ (e : EndedValue). p e.asking.job) w.ended + count_asked p w.asking
+  pub shared : AreShared w.ended w.left
 
 -- one history explains its clients, its moments, its results and its jobs, and its results are those of its exchanges
 pub record IsExplainedLoop (w : WholeLoop) : Type 0 where
@@ -49,23 +67,29 @@ pub record IsExplainedLoop (w : WholeLoop) : Type 0 where
 
 -- ---- what only grows
 
--- it goes over the same stream, or over its first, from which more may have been read, to which more may have been written, and of which
--- more may have been reported
+-- the same stream, with more turns of the same job
+pub record IsSameStream (s t : StreamValue) : Type 0 where
+  pub peer : t.peer ≡ s.peer
+  pub before : t.before ≡ s.before
+  pub turns : IsPrefixOf s.turns t.turns
+
+-- .. if the one is there
+abbrev pub IsSameIfThere : Option StreamValue → StreamValue → Type 0
+IsSameIfThere None t = ⊤
+IsSameIfThere (Some s) t = IsSameStream s t
+
+-- it goes over the same stream, or over its first, with more turns, and more may have been reported of it
 pub record KeepsStream (x y : AskingValue) : Type 0 where
   pub tried : y.tried ≡ x.tried
-  pub peer : (x.peer ≡ None) ⊎ (y.peer ≡ x.peer)
-  pub given : IsPrefixOf x.given y.given
-  pub got : IsPrefixOf x.got y.got
-  pub reported : (x.peer ≡ None) ⊎ IsPrefixOf x.reported y.reported
+  pub stream : (x.stream ≡ None) ⊎ ((t : StreamValue) × (y.stream ≡ Some t) × IsSameIfThere x.stream t)
+  pub reported : (x.stream ≡ None) ⊎ IsPrefixOf x.reported y.reported
 
--- that stream was given up since, with all that had been read from it and written to it
+-- that stream was given up since, with all its turns
 pub record GivesUpStream (x y : AskingValue) : Type 0 where
   pub last : StreamValue
   pub others : List StreamValue
   pub tried_are : y.tried ≡ x.tried ++ last ∷ others
-  pub peer : (x.peer ≡ None) ⊎ (x.peer ≡ Some last.peer)
-  pub given : IsPrefixOf x.given last.given
-  pub got : IsPrefixOf x.got last.got
+  pub stream : IsSameIfThere x.stream last
 
 -- the same job: nothing that was found, read or written for it is forgotten
 pub record AsksOn (x y : AskingValue) : Type 0 where
@@ -81,11 +105,12 @@ pub record HasEndedSince (v w : WholeLoop) (y : AskingValue) : Type 0 where
   pub ended_are : w.ended ≡ v.ended ++ (before ++ ended_value y outcome ∷ after)
 
 -- its replies may be framed as before; all of its clients' side continues; each job that was asked for is asked for in its place with more,
--- or has ended with more; and what had ended stays
+-- or has ended with more; and what had ended stays, and what was left
 pub record ContinuesLoop (v w : WholeLoop) : Type 0 where
   pub framing : w.framing ≡ v.framing
   pub side : Continues v.side w.side
   pub asking : (i : ℕ) (x : AskingValue) → asked_at i v.asking ≡ Some x
       → (y : AskingValue) × ((asked_at i w.asking ≡ Some y) ⊎ HasEndedSince v w y) × AsksOn x y
   pub ended : IsPrefixOf v.ended w.ended
+  pub left : IsPrefixOf v.left w.left
   pub looked_up : IsPrefixOf v.looked_up w.looked_up

@@ -1,5 +1,5 @@
 -- What is known of each request, and of a job's counts.
-use Rattle.std.proofs.Common.{◌≡◌, ℕ, zero, suc, ◌+◌, Bool, List, [], ◌∷◌, ◌++◌, All, cond, length, Option, Some, None, ap, append-nil, arith, inl, inr, refl, sym, ◌∙◌}
+use Rattle.std.proofs.Common.{◌≡◌, ℕ, zero, suc, ◌+◌, Bool, List, [], ◌∷◌, ◌++◌, All, cond, length, Option, Some, None, ap, append-nil, arith, inl, inr, refl, subst, sym, ◌∙◌}
 use Rattle.std.specs.Prelude.{count_by, slice_index_or, take}
 use Rattle.std.proofs.lemmas.List.{length-append}
 use Rattle.std.proofs.lemmas.List.Elements.{All-cons, All-head, All-nil}
@@ -17,8 +17,11 @@ use Rattle.connect_codec.specs.Message.{message_bytes}
 use Rattle.gateway_model.specs.Job.{JobValue}
 use Rattle.gateway_model.specs.Queue.{IsPrefixOf}
 use Rattle.std.specs.declared.net.socket_addr.SocketAddr.{SocketAddr}
-use Rattle.loop_model.specs.Asking.{EndedValue, IsAddressed, IsFair, IsUntouched, StreamValue, peers_of, request_of}
-use Rattle.loop_rows.specs.LoopRows.{asked, ended}
+use Rattle.loop_model.specs.Asking.{AskingValue, BeginsRequest, EndedValue, IsAddressed, IsFair, IsUntouched, peers_of, request_of, streams_for}
+use Rattle.loop_model.specs.Streams.{StreamValue}
+use Rattle.wires.specs.Turns.{Turn, got_of}
+use Rattle.std.proofs.lemmas.List.{map-append}
+use Rattle.loop_rows.specs.LoopRows.{asked, ended, new_stream, talk}
 
 pub some_is : (a b : Outcome) → Some a ≡ Some b → a ≡ b
 some_is a b e = cc
@@ -30,11 +33,24 @@ pub all_one : {X : Type 0} (P : X → Type 0) (x : X) → P x → All P (x ∷ [
 all_one P x one = All-cons P x [] one (All-nil P)
 
 -- its stream leads to the address that was found last
-pub found_last : (a : SocketAddr) (j : JobValue) (tried : List StreamValue) (given got : List ℕ) → IsAddressed (asked a j tried given got)
-found_last a j tried given got = record { later = []; in_order = inr (append-nil (peers_of tried (Some a))); none = λ is. absurd (no_host a is) }
-  where
-    no_host : (b : SocketAddr) → Some b ≡ None → ⊥
-    no_host b e = cc
+pub found_last : (a : SocketAddr) (j : JobValue) (tried : List StreamValue) (turns : List Turn) → IsAddressed (asked a j tried turns)
+found_last a j tried turns = record {
+  later = [];
+  in_order = inr (append-nil (peers_of (streams_for (asked a j tried turns))) ∙ map-append (λ (s : StreamValue). s.peer) tried (new_stream a turns ∷ []));
+}
+
+-- no job went over its streams before
+abbrev pub IsNew : StreamValue → Type 0
+IsNew s = s.before ≡ []
+
+-- it began so, over its first stream
+pub begins_so : (a : SocketAddr) (j : JobValue) (turns : List Turn) → IsPrefixOf (got_of turns) (request_of j) → BeginsRequest (asked a j [] turns)
+begins_so a j turns prefix =
+    record { new = all_one IsNew (new_stream a turns) refl; untouched = All-nil IsUntouched; prefix = prefix; addressed = found_last a j [] turns }
+
+-- .. with all of these bytes
+pub prefix_of : (xs front more : List ℕ) → xs ≡ front ++ more → IsPrefixOf (front ++ []) xs
+prefix_of xs front more is = (more, is ∙ ap (λ (l : List ℕ). l ++ more) (sym (append-nil front)))
 
 -- each request begins with POST
 pub begins_with_p : (j : JobValue) → slice_index_or (request_of j) 0 0 ≡ 80
@@ -107,24 +123,38 @@ abbrev pub CutsOnce : Framing → Type 0
 CutsOnce framing = (text : List ℕ) (c d : Cut ReplyFault HttpReply) → IsCut (reply_kind framing) text c → IsCut (reply_kind framing) text d → c ≡ d
 
 module _ (f : Framing) (a : SocketAddr) (j : JobValue) (given : List ℕ) where
+  -- all of the request was written, and these bytes were read
+  begun : BeginsRequest (asked a j [] (talk (request_of j) given))
+  begun = begins_so a j (talk (request_of j) given) (prefix_of (request_of j) (request_of j) [] (sym (append-nil (request_of j))))
+
   -- by the reply that it began with
   pub answered_by : (reply : HttpReply) (rest : List ℕ) → IsCut (reply_kind f) given (Complete reply rest)
-      → IsFair f (ended a j [] given (request_of j) (Some (outcome_of (Some reply))))
+      → IsFair f (ended a j [] (talk (request_of j) given) (Some (outcome_of (Some reply))))
   answered_by reply rest cut = record {
-    begun = record { untouched = All-nil IsUntouched; prefix = ([], sym (append-nil (request_of j))); addressed = found_last a j _ _ _ };
-    outcome = λ o is. inr (record { whole = refl; reply = reply; rest = rest; begins = cut; outcome_is = sym (some_is _ o is) });
+    begun = begun;
+    outcome = λ o is. inr (record {
+      whole = append-nil (request_of j);
+      reply = reply;
+      rest = rest;
+      begins = subst (λ (t : List ℕ). IsCut (reply_kind f) t (Complete reply rest)) (sym (append-nil given)) cut;
+      outcome_is = sym (some_is _ o is);
+    });
   }
 
   -- by none, where it began with none
   pub lost_by : ((reply : HttpReply) (rest : List ℕ) → IsCut (reply_kind f) given (Complete reply rest) → ⊥)
-      → IsFair f (ended a j [] given (request_of j) (Some (outcome_of None)))
+      → IsFair f (ended a j [] (talk (request_of j) given) (Some (outcome_of None)))
   lost_by none = record {
-    begun = record { untouched = All-nil IsUntouched; prefix = ([], sym (append-nil (request_of j))); addressed = found_last a j _ _ _ };
-    outcome = λ o same. inl (sym (some_is _ o same), λ whole reply begins. none reply begins.0 begins.1);
+    begun = begun;
+    outcome = λ o same. inl (
+      sym (some_is _ o same),
+      λ whole reply begins.
+          none reply begins.0 (subst (λ (t : List ℕ). IsCut (reply_kind f) t (Complete reply begins.0)) (append-nil given) begins.1),
+    );
   }
 
   pub lost_by_refusal : CutsOnce f → (fault : ReplyFault) → IsCut (reply_kind f) given (Refused fault)
-      → IsFair f (ended a j [] given (request_of j) (Some (outcome_of None)))
+      → IsFair f (ended a j [] (talk (request_of j) given) (Some (outcome_of None)))
   lost_by_refusal once fault cut = lost_by (λ reply rest whole. not_refused fault reply rest (once given _ _ cut whole))
 
 -- ---- results

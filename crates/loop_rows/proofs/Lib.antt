@@ -3,3 +3,4 @@ pub mod ExchangeLemmas
 pub mod LostLemmas
 pub mod ConnectionLemmas
 pub mod NameRows
+pub mod ShareRows

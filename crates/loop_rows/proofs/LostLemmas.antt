@@ -1,5 +1,5 @@
 -- What a loop with one job goes on with.
-use Rattle.std.proofs.Common.{◌≡◌, ℕ, ◌≤◌, zero, suc, List, [], ◌∷◌, ◌++◌, length, Option, None, Some, ap, arith, inr, refl, sym, ◌∙◌}
+use Rattle.std.proofs.Common.{◌≡◌, ℕ, ◌≤◌, zero, suc, List, [], ◌∷◌, ◌++◌, length, Option, None, Some, ap, arith, inl, inr, refl, sym, ◌∙◌}
 use Rattle.std.proofs.lemmas.List.{length-append}
 use Rattle.std.proofs.lemmas.List.Elements.{All-nil}
 use Rattle.connect_codec.specs.declared.answer.Outcome.{Outcome}
@@ -12,17 +12,25 @@ use Rattle.std.specs.declared.net.socket_addr.SocketAddr.{SocketAddr}
 use Rattle.loop_model.specs.Asking.{AskingValue, BeginsRequest, EndedValue, IsUntouched, ended_value, request_of}
 use Rattle.loop_model.specs.Clients.{ClientValue}
 use Rattle.loop_model.specs.Growing.{Continues}
+use Rattle.loop_model.specs.Streams.{StreamValue, stream_value}
 use Rattle.loop_model.specs.Histories.{Extends, GoesOn, LivesOn}
 use Rattle.loop_model.specs.Explained.{LoopValue}
 use Rattle.gateway_model.specs.History.{History}
-use Rattle.loop_model.specs.Whole.{HasEndedSince, WholeLoop, asked_at}
-use Rattle.loop_rows.specs.LoopRows.{asking, loop_of}
+use Rattle.loop_model.specs.Whole.{AsksOn, HasEndedSince, WholeLoop, asked_at}
+use Rattle.loop_rows.specs.LoopRows.{asked, asking, loop_of, new_stream}
+use Rattle.wires.specs.Turns.{Turn}
 
 pub some_is : (a b : AskingValue) → Some a ≡ Some b → a ≡ b
 some_is a b e = cc
 
 pub none_is : (b : AskingValue) → None ≡ Some b → ⊥
 none_is b e = cc
+
+pub some_stream : (s t : StreamValue) → Some s ≡ Some t → s ≡ t
+some_stream s t e = cc
+
+pub no_stream : (s : StreamValue) → Some s ≡ None → ⊥
+no_stream s e = cc
 
 pub one_peer : (a b : SocketAddr) → Some a ≡ Some b → a ≡ b
 one_peer a b e = cc
@@ -86,9 +94,10 @@ nowhere (suc i) y is = none_is y is
 -- nothing was done for it yet
 pub begins_at_first : (j : JobValue) → BeginsRequest (asking j)
 begins_at_first j = record {
+  new = All-nil (λ (s : StreamValue). s.before ≡ []);
   untouched = All-nil IsUntouched;
   prefix = (request_of j, refl);
-  addressed = record { later = []; in_order = inr refl; none = λ is. refl };
+  addressed = record { later = []; in_order = inr refl };
 }
 
 -- nothing ended since where nothing has ended
@@ -100,3 +109,15 @@ nothing_since v w y none e =
       length-append v.ended (e.before ++ ended_value y e.outcome ∷ e.after),
       length-append e.before (ended_value y e.outcome ∷ e.after),
     )
+
+-- one that is asked for has more turns
+pub more_turns : (a : SocketAddr) (j : JobValue) (turns more : List Turn) → AsksOn (asked a j [] turns) (asked a j [] (turns ++ more))
+more_turns a j turns more = record {
+  job = refl;
+  found = prefix-refl (a ∷ []);
+  streams = inl record {
+    tried = refl;
+    stream = inr (new_stream a (turns ++ more), refl, record { peer = refl; before = refl; turns = (more, refl) });
+    reported = inr (prefix-refl []);
+  };
+}

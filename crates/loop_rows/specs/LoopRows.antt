@@ -1,5 +1,6 @@
 -- What the worked rows speak of.
-use Rattle.std.specs.Prelude.{◌≡◌, ◌<◌, ℕ, Bool, true, false, List, [], ◌∷◌, ◌++◌, map, Option, None, Some, is_some}
+use Rattle.std.specs.Prelude.{◌≡◌, ◌<◌, ℕ, Bool, true, false, List, [], ◌∷◌, ◌++◌, flat_map, Option, None, Some, is_some}
+use Rattle.std.specs.Option.{option_map_or}
 use Rattle.call_plan.specs.Plan.{PlanRecord}
 use Rattle.connect_codec.specs.declared.answer.Outcome.{Outcome}
 use Rattle.gateway_model.specs.Events.{Before, Occurs, connections, hung_up, stream}
@@ -20,12 +21,13 @@ use Rattle.http_pieces.specs.declared.reply_fault.ReplyFault.{ReplyFault}
 use Rattle.std.specs.declared.net.socket_addr.SocketAddr.{SocketAddr}
 use Rattle.loop_model.specs.Accounts.{Account, NetworkValue}
 use Rattle.loop_model.specs.Found.{FoundValue, LookUp}
-use Rattle.loop_model.specs.Streams.{ClosedValue}
-use Rattle.loop_model.specs.Asking.{AskingValue, EndedValue, StreamValue, ended_value}
+use Rattle.loop_model.specs.Streams.{ClosedValue, StreamValue, stream_value}
+use Rattle.loop_model.specs.Asking.{AskingValue, EndedValue, ended_value, peers_of}
 use Rattle.loop_model.specs.Clients.{ClientValue, client_value}
 use Rattle.loop_model.specs.Explained.{LoopValue}
 use Rattle.loop_model.specs.Handed.{ResultValue}
-use Rattle.loop_model.specs.Whole.{WholeLoop}
+use Rattle.loop_model.specs.Whole.{WholeLoop, share_of}
+use Rattle.wires.specs.Turns.{Came, Turn, Went}
 use Rattle.wires.specs.declared.ready.Ready.{Ready}
 
 -- these events after two openings that succeeded
@@ -41,19 +43,27 @@ result_of conn request branch outcome = record { call = call_id conn request; br
 
 -- that job is asked for, and nothing was done for it yet
 abbrev pub asking : JobValue → AskingValue
-asking job = record { job = job; known = false; found = []; tried = []; peer = None; given = []; got = []; reads = false; writes = false; watched = None; reported = []; until = None; over = false }
+asking job = record { job = job; known = false; found = []; tried = []; stream = None; reads = false; writes = false; watched = None; reported = []; until = None; over = false }
 
--- it is asked for so, over a stream to this address, which was found for its name behind those that were tried
-abbrev pub asked : SocketAddr → JobValue → List StreamValue → List ℕ → List ℕ → AskingValue
-asked a job tried given got = record { job = job; known = true; found = map (λ (s : StreamValue). s.peer) tried ++ a ∷ []; tried = tried; peer = Some a; given = given; got = got; reads = false; writes = false; watched = None; reported = []; until = None; over = false }
+-- these bytes were written to a stream, and then these were read
+abbrev pub talk : List ℕ → List ℕ → List Turn
+talk got given = Went got ∷ Came given ∷ []
+
+-- a stream to this address over which no job went before, at which these turns were done
+abbrev pub new_stream : SocketAddr → List Turn → StreamValue
+new_stream a turns = stream_value a [] turns
+
+-- it is asked for so, over a stream to this address at which these turns were done, which was found for its name behind those that were tried
+abbrev pub asked : SocketAddr → JobValue → List StreamValue → List Turn → AskingValue
+asked a j tried turns = record { job = j; known = true; found = peers_of tried ++ a ∷ []; tried = tried; stream = Some (new_stream a turns); reads = false; writes = false; watched = None; reported = []; until = None; over = false }
 
 -- .. over a stream to this address, where these were found for its name
 abbrev pub asked_at_peer : SocketAddr → List SocketAddr → JobValue → AskingValue
-asked_at_peer peer found job = record { job = job; known = true; found = found; tried = []; peer = Some peer; given = []; got = []; reads = false; writes = false; watched = None; reported = []; until = None; over = false }
+asked_at_peer peer found job = record { job = job; known = true; found = found; tried = []; stream = Some (new_stream peer []); reads = false; writes = false; watched = None; reported = []; until = None; over = false }
 
 -- it was asked for so, and that was recorded of it
-abbrev pub ended : SocketAddr → JobValue → List StreamValue → List ℕ → List ℕ → Option Outcome → EndedValue
-ended a job tried given got outcome = ended_value (asked a job tried given got) outcome
+abbrev pub ended : SocketAddr → JobValue → List StreamValue → List Turn → Option Outcome → EndedValue
+ended a j tried turns outcome = ended_value (asked a j tried turns) outcome
 
 -- a client of that connection: whether it lingers, what was read and written, whether a read found its end, and what waits to be written
 abbrev pub client_with : ℕ → Bool → List ℕ → List ℕ → Bool → List ℕ → ClientValue
@@ -67,6 +77,10 @@ client_of conn = client_with conn false [] [] false []
 abbrev pub with_clients : GatewayValue → List (Option ClientValue) → List ClientValue → LoopValue
 with_clients core clients gone = record { core = core; clients = clients; gone = gone; unserved = []; told = []; results = []; handed = []; drained = false }
 
+-- its stream, as the job has left it
+abbrev pub left_of : EndedValue → List StreamValue
+left_of e = option_map_or (λ (s : StreamValue). stream_value s.peer (s.before ++ share_of e) [] ∷ []) e.asking.stream []
+
 -- a loop without clients, whose replies may be framed so
 abbrev pub loop_of : Framing → GatewayValue → List (JobValue × Option Outcome) → List JobValue → List (Option AskingValue) → List EndedValue → WholeLoop
 loop_of framing core results handed asking ended = record {
@@ -74,6 +88,7 @@ loop_of framing core results handed asking ended = record {
   side = record { core = core; clients = []; gone = []; unserved = []; told = []; results = results; handed = handed; drained = false };
   asking = asking;
   ended = ended;
+  left = flat_map left_of ended;
   closing = [];
   looked_up = [];
   waits = [];
@@ -112,15 +127,20 @@ lingering_client ended reads until = client_value 0 true [] [] ended [] reads tr
 abbrev pub watched_client : Option (ℕ × Bool) → ClientValue
 watched_client watched = client_value 0 false [] [] false [] false true watched [] None
 
--- that job is asked for, so much of its request was written, and this may be done at its stream; and whether it has ended
-abbrev pub standing_job : JobValue → List ℕ → Bool → Bool → Bool → AskingValue
-standing_job job got reads writes over =
-    record { job = job; known = false; found = []; tried = []; peer = None; given = []; got = got; reads = reads; writes = writes; watched = None; reported = []; until = None; over = over }
+-- that job is asked for without a stream, and this may be done at one; and whether it has ended
+abbrev pub standing_job : JobValue → Bool → Bool → Bool → AskingValue
+standing_job job reads writes over =
+    record { job = job; known = false; found = []; tried = []; stream = None; reads = reads; writes = writes; watched = None; reported = []; until = None; over = over }
 
--- .. over a stream to this address, at which nothing may be done, and which is watched so; and until when it has to take a byte
+-- .. over a stream to this address, in place 1, to which so much of its request was written, where this may be done
+abbrev pub talking_job : SocketAddr → JobValue → List ℕ → Bool → Bool → AskingValue
+talking_job a job got reads writes =
+    record { job = job; known = true; found = []; tried = []; stream = Some (new_stream a (Went got ∷ [])); reads = reads; writes = writes; watched = Some (3, true); reported = []; until = None; over = false }
+
+-- .. at which nothing may be done, and which is watched so; and until when it has to take a byte
 abbrev pub watched_job : SocketAddr → JobValue → List ℕ → Option (ℕ × Bool) → Option ℕ → AskingValue
 watched_job a job got watched until =
-    record { job = job; known = true; found = []; tried = []; peer = Some a; given = []; got = got; reads = false; writes = false; watched = watched; reported = []; until = until; over = false }
+    record { job = job; known = true; found = []; tried = []; stream = Some (new_stream a (Went got ∷ [])); reads = false; writes = false; watched = watched; reported = []; until = until; over = false }
 
 -- a read may bring something at the stream of that token
 abbrev pub readable : ℕ → Ready
@@ -128,7 +148,7 @@ readable token = record { token = token; readable = true; writable = false; read
 
 -- a loop with these clients, which asks for these jobs
 abbrev pub loop_with : GatewayValue → List (Option ClientValue) → List (Option AskingValue) → WholeLoop
-loop_with core clients asking = record { framing = framing.Fixed; side = with_clients core clients []; asking = asking; ended = []; closing = []; looked_up = []; waits = [] }
+loop_with core clients asking = record { framing = framing.Fixed; side = with_clients core clients []; asking = asking; ended = []; left = []; closing = []; looked_up = []; waits = [] }
 
 -- .. without clients, which waits for these names
 abbrev pub loop_that_waits : GatewayValue → List (Option AskingValue) → List FoundValue → List (List ℕ) → WholeLoop
@@ -161,8 +181,8 @@ network_asked names = record { told = []; made = []; closed = []; asked = names 
 
 -- a loop without clients, whose jobs ended so, and where these streams wait to be closed
 abbrev pub with_ends : Framing → GatewayValue → List EndedValue → List ClosedValue → WholeLoop
-with_ends framing core ended closing = record { framing = framing; side = with_clients core [] []; asking = []; ended = ended; closing = closing; looked_up = []; waits = [] }
+with_ends framing core ended closing = record { framing = framing; side = with_clients core [] []; asking = []; ended = ended; left = flat_map left_of ended; closing = closing; looked_up = []; waits = [] }
 
 -- .. with these clients, and these who have gone
 abbrev pub with_gone : Framing → GatewayValue → List (Option ClientValue) → List ClientValue → WholeLoop
-with_gone framing core clients gone = record { framing = framing; side = with_clients core clients gone; asking = []; ended = []; closing = []; looked_up = []; waits = [] }
+with_gone framing core clients gone = record { framing = framing; side = with_clients core clients gone; asking = []; ended = []; left = []; closing = []; looked_up = []; waits = [] }

@@ -15,3 +15,4 @@ mod rows_of_names;
 mod rows_of_reports;
 mod rows_of_rest;
 mod rows_of_results;
+mod rows_of_shares;

@@ -6,23 +6,23 @@ ghost use Rattle.gateway_model.specs.Job.{JobValue};
 ghost use Rattle.gateway_theory.specs.Values.{GatewayValue};
 ghost use Rattle.http_pieces.specs.declared.framing.Framing.{Framing};
 ghost use Rattle.loop_model.specs.Accounts.{AccountsFor};
-ghost use Rattle.loop_model.specs.Asking.{stream_value};
 ghost use Rattle.loop_model.specs.Found.{Asked, Found, found_value};
-ghost use Rattle.loop_model.specs.Streams.{closed_value};
-ghost use Rattle.loop_rows.specs.LoopRows.{account, account_of, asked, asks, client_of, client_with, ended, loop_of, loop_that_waits, network, network_asked, with_ends, with_gone};
+ghost use Rattle.loop_model.specs.Streams.{closed_turns, closed_value};
+ghost use Rattle.loop_rows.specs.LoopRows.{account, account_of, asked, asks, client_of, client_with, ended, loop_of, loop_that_waits, network, network_asked, new_stream, talk, with_ends, with_gone};
+ghost use Rattle.wires.specs.Turns.{Went};
 
 /// A stream that was made is that of a job; it is closed once that has ended, or waits to be; and so is a stream that was
 /// given up, and a client's.
 fn streams_of_a_loop()
     ensures none { (f : Framing) (v : GatewayValue) → AccountsFor (account 0) (network [] []) (loop_of f v [] [] [] []) }
     ensures made { (a : SocketAddr) (f : Framing) (v : GatewayValue) (j : JobValue) (got : List ℕ)
-        → AccountsFor (account 0) (network (a ∷ []) []) (asks f v (asked a j [] [] got)) }
+        → AccountsFor (account 0) (network (a ∷ []) []) (asks f v (asked a j [] (Went got ∷ []))) }
     ensures given_up { (a b : SocketAddr) (f : Framing) (v : GatewayValue) (j : JobValue)
-        → AccountsFor (account 0) (network (a ∷ b ∷ []) (closed_value (Some a) [] [] ∷ [])) (asks f v (asked b j (stream_value a [] [] false ∷ []) [] [])) }
+        → AccountsFor (account 0) (network (a ∷ b ∷ []) (closed_value (Some a) [] [] ∷ [])) (asks f v (asked b j (new_stream a [] ∷ []) [])) }
     ensures closed { (a : SocketAddr) (f : Framing) (v : GatewayValue) (j : JobValue) (given got : List ℕ) (o : Option Outcome)
-        → AccountsFor (account 0) (network (a ∷ []) (closed_value (Some a) given got ∷ [])) (with_ends f v (ended a j [] given got o ∷ []) []) }
+        → AccountsFor (account 0) (network (a ∷ []) (closed_turns (Some a) (talk got given) ∷ [])) (with_ends f v (ended a j [] (talk got given) o ∷ []) []) }
     ensures waits { (a : SocketAddr) (f : Framing) (v : GatewayValue) (j : JobValue) (given got : List ℕ) (o : Option Outcome)
-        → AccountsFor (account 0) (network (a ∷ []) []) (with_ends f v (ended a j [] given got o ∷ []) (closed_value (Some a) given got ∷ [])) }
+        → AccountsFor (account 0) (network (a ∷ []) []) (with_ends f v (ended a j [] (talk got given) o ∷ []) (closed_turns (Some a) (talk got given) ∷ [])) }
     ensures client { (f : Framing) (v : GatewayValue) (given got : List ℕ)
         → AccountsFor (account 2) (network [] (closed_value None given got ∷ [])) (with_gone f v (Some (client_of 0) ∷ []) (client_with 1 false given got true [] ∷ [])) }
 {}
@@ -32,17 +32,17 @@ fn streams_of_a_loop()
 fn streams_out_of_sight()
     ensures nobodys { (a : SocketAddr) (f : Framing) (v : GatewayValue) → AccountsFor (account 0) (network (a ∷ []) []) (loop_of f v [] [] [] []) → ⊥ }
     ensures unmade { (a : SocketAddr) (f : Framing) (v : GatewayValue) (j : JobValue)
-        → AccountsFor (account 0) (network [] []) (asks f v (asked a j [] [] [])) → ⊥ }
+        → AccountsFor (account 0) (network [] []) (asks f v (asked a j [] [])) → ⊥ }
     ensures unclosed { (a : SocketAddr) (f : Framing) (v : GatewayValue) (j : JobValue) (o : Option Outcome)
-        → AccountsFor (account 0) (network (a ∷ []) []) (with_ends f v (ended a j [] [] [] o ∷ []) []) → ⊥ }
+        → AccountsFor (account 0) (network (a ∷ []) []) (with_ends f v (ended a j [] [] o ∷ []) []) → ⊥ }
     ensures twice { (a : SocketAddr) (f : Framing) (v : GatewayValue) (j : JobValue) (o : Option Outcome)
-        → AccountsFor (account 0) (network (a ∷ []) (closed_value (Some a) [] [] ∷ [])) (with_ends f v (ended a j [] [] [] o ∷ []) (closed_value (Some a) [] [] ∷ [])) → ⊥ }
+        → AccountsFor (account 0) (network (a ∷ []) (closed_value (Some a) [] [] ∷ [])) (with_ends f v (ended a j [] [] o ∷ []) (closed_value (Some a) [] [] ∷ [])) → ⊥ }
     ensures given_up { (a b : SocketAddr) (f : Framing) (v : GatewayValue) (j : JobValue)
-        → AccountsFor (account 0) (network (a ∷ b ∷ []) []) (asks f v (asked b j (stream_value a [] [] false ∷ []) [] [])) → ⊥ }
+        → AccountsFor (account 0) (network (a ∷ b ∷ []) []) (asks f v (asked b j (new_stream a [] ∷ []) [])) → ⊥ }
     ensures client { (f : Framing) (v : GatewayValue) → AccountsFor (account 1) (network [] []) (with_gone f v [] (client_of 0 ∷ [])) → ⊥ }
     ensures dealt { (f : Framing) (v : GatewayValue) → AccountsFor (account 1) (network [] []) (loop_of f v [] [] [] []) → ⊥ }
     ensures written { (a : SocketAddr) (f : Framing) (v : GatewayValue) (j : JobValue) (o : Option Outcome) (byte : ℕ)
-        → AccountsFor (account 0) (network (a ∷ []) (closed_value (Some a) [] (byte ∷ []) ∷ [])) (with_ends f v (ended a j [] [] [] o ∷ []) []) → ⊥ }
+        → AccountsFor (account 0) (network (a ∷ []) (closed_value (Some a) [] (byte ∷ []) ∷ [])) (with_ends f v (ended a j [] [] o ∷ []) []) → ⊥ }
 {}
 
 /// A loop waits for a name that its network took to look up, and for which nothing was found since; and for no other.

@@ -24,5 +24,5 @@ fn reports_that_are_told()
 fn reports_that_are_lost()
     ensures lost { (v : GatewayValue) → ContinuesLoop (tell (readable 0) (loop_with v (Some (client_of 0) ∷ []) [])) (loop_with v (Some (client_of 0) ∷ []) []) → ⊥ }
     ensures of_a_job { (a : SocketAddr) (v : GatewayValue) (j : JobValue)
-        → ContinuesLoop (tell (readable 1) (loop_with v [] (Some (asked a j [] [] []) ∷ []))) (loop_with v [] (Some (asked a j [] [] []) ∷ [])) → ⊥ }
+        → ContinuesLoop (tell (readable 1) (loop_with v [] (Some (asked a j [] []) ∷ []))) (loop_with v [] (Some (asked a j [] []) ∷ [])) → ⊥ }
 {}

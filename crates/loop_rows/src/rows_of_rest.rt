@@ -8,7 +8,7 @@ ghost use Rattle.http_pieces.specs.declared.framing.Framing.{Framing};
 ghost use Rattle.std.specs.declared.net.socket_addr.SocketAddr.{SocketAddr};
 ghost use Rattle.loop_model.specs.Asking.{request_of};
 ghost use Rattle.loop_model.specs.Rest.{RestsAsking, RestsClient, RestsTill};
-ghost use Rattle.loop_rows.specs.LoopRows.{IsQuietAt, IsWantedBy, lingering_client, loop_of, loop_that_waits, standing_client, standing_job, watched_client, watched_job};
+ghost use Rattle.loop_rows.specs.LoopRows.{IsQuietAt, IsWantedBy, lingering_client, loop_of, loop_that_waits, standing_client, standing_job, talking_job, watched_client, watched_job};
 
 /// One to whom nothing is owed rests while nothing comes; one to whom something is owed while its stream takes no more.
 fn rests_of_clients()
@@ -34,16 +34,19 @@ fn rests_of_those_that_linger()
 /// A job that is asked for rests while its stream has nothing to read, and takes no more where something is left to be
 /// written. One whose stream has not taken a byte is not read.
 fn rests_of_jobs()
-    ensures waits { (s : Shown) (until : Option ℕ) (j : JobValue)
-        → IsWantedBy s j → j.deadline ≡ None → RestsAsking s until 0 (standing_job j (request_of j) false true false) }
-    ensures full { (s : Shown) (until : Option ℕ) (j : JobValue) → IsWantedBy s j → j.deadline ≡ None → RestsAsking s until 0 (standing_job j [] false false false) }
-    ensures unsent { (s : Shown) (until : Option ℕ) (j : JobValue) → RestsAsking s until 0 (standing_job j [] false true false) → request_of j ≡ [] }
-    ensures connects { (s : Shown) (until : Option ℕ) (j : JobValue) → IsWantedBy s j → j.deadline ≡ None → RestsAsking s until 0 (standing_job j [] true false false) }
-    ensures unread { (s : Shown) (until : Option ℕ) (j : JobValue) (b : ℕ) (more : List ℕ) → RestsAsking s until 0 (standing_job j (b ∷ more) true false false) → ⊥ }
-    ensures over { (s : Shown) (until : Option ℕ) (j : JobValue) (got : List ℕ) → RestsAsking s until 0 (standing_job j got false false true) → ⊥ }
-    ensures unwanted { (s : Shown) (until : Option ℕ) (j : JobValue) (got : List ℕ)
-        → is_some (s.recorded j.call) ≡ false → RestsAsking s until 0 (standing_job j got false false false) → ⊥ }
-    ensures slept_over { (s : Shown) (j : JobValue) (got : List ℕ) → j.deadline ≡ Some 5 → RestsAsking s (Some 6) 0 (standing_job j got false false false) → ⊥ }
+    ensures waits { (a : SocketAddr) (s : Shown) (until : Option ℕ) (j : JobValue)
+        → IsWantedBy s j → j.deadline ≡ None → RestsAsking s until 1 (talking_job a j (request_of j) false true) }
+    ensures full { (a : SocketAddr) (s : Shown) (until : Option ℕ) (j : JobValue)
+        → IsWantedBy s j → j.deadline ≡ None → RestsAsking s until 1 (talking_job a j [] false false) }
+    ensures unsent { (a : SocketAddr) (s : Shown) (until : Option ℕ) (j : JobValue) → RestsAsking s until 1 (talking_job a j [] false true) → request_of j ≡ [] }
+    ensures connects { (a : SocketAddr) (s : Shown) (until : Option ℕ) (j : JobValue)
+        → IsWantedBy s j → j.deadline ≡ None → RestsAsking s until 1 (talking_job a j [] true false) }
+    ensures unread { (a : SocketAddr) (s : Shown) (until : Option ℕ) (j : JobValue) (b : ℕ) (more : List ℕ)
+        → RestsAsking s until 1 (talking_job a j (b ∷ more) true false) → ⊥ }
+    ensures over { (s : Shown) (until : Option ℕ) (j : JobValue) → RestsAsking s until 0 (standing_job j false false true) → ⊥ }
+    ensures unwanted { (s : Shown) (until : Option ℕ) (j : JobValue)
+        → is_some (s.recorded j.call) ≡ false → RestsAsking s until 0 (standing_job j false false false) → ⊥ }
+    ensures slept_over { (s : Shown) (j : JobValue) → j.deadline ≡ Some 5 → RestsAsking s (Some 6) 0 (standing_job j false false false) → ⊥ }
 {}
 
 /// Nobody rests whose stream is not watched, or by the token of another place; nor one that has something to write, and
@@ -73,8 +76,8 @@ fn rests_of_loops()
     ensures slept_over { (f : Framing) (v : GatewayValue) → (shown v).deadline ≡ Some 5 → RestsTill (Some 6) (loop_of f v [] [] [] []) → ⊥ }
     ensures forgotten { (f : Framing) (v : GatewayValue) → (shown v).deadline ≡ Some 5 → RestsTill None (loop_of f v [] [] [] []) → ⊥ }
     ensures named { (v : GatewayValue) (j : JobValue) → (shown v).waiting ≡ [] → (shown v).deadline ≡ None → IsWantedBy (shown v) j → j.deadline ≡ None
-        → RestsTill None (loop_that_waits v (Some (standing_job j [] false false false) ∷ []) [] (j.address ∷ [])) }
-    ensures unnamed { (v : GatewayValue) (until : Option ℕ) (j : JobValue) → RestsTill until (loop_that_waits v (Some (standing_job j [] false false false) ∷ []) [] []) → ⊥ }
+        → RestsTill None (loop_that_waits v (Some (standing_job j false false false) ∷ []) [] (j.address ∷ [])) }
+    ensures unnamed { (v : GatewayValue) (until : Option ℕ) (j : JobValue) → RestsTill until (loop_that_waits v (Some (standing_job j false false false) ∷ []) [] []) → ⊥ }
     ensures anothers { (v : GatewayValue) (until : Option ℕ) (j : JobValue) (other : List ℕ) → (other ≡ j.address → ⊥)
-        → RestsTill until (loop_that_waits v (Some (standing_job j [] false false false) ∷ []) [] (other ∷ [])) → ⊥ }
+        → RestsTill until (loop_that_waits v (Some (standing_job j false false false) ∷ []) [] (other ∷ [])) → ⊥ }
 {}

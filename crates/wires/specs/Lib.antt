@@ -1,2 +1,4 @@
 pub mod Wires
+pub mod Turns
 pub mod Telling
+pub mod lemmas

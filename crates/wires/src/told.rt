@@ -1,8 +1,10 @@
-ghost use Rattle.std.specs.Prelude.{◌≡◌, [], false, true, None, Some};
+ghost use Rattle.std.specs.Prelude.{◌≡◌, ◌++◌, ◌∷◌, [], false, true, None, Some};
+ghost use Rattle.wires.specs.Turns.{Over};
 
 use crate::got::{Got, Sent};
 use crate::outbox::Outbox;
 use crate::ready::Ready;
+use crate::turns::{Did, Turns};
 use crate::wire::{PIECE, Wire};
 use http_server::Log;
 use std::io::{self, ErrorKind, Read, Write};
@@ -15,21 +17,19 @@ pub trait Stream: Read + Write {
     fn shut_sending(&self) -> io::Result<()>;
 }
 
-/// Any stream as a `Wire`, whether or not it tells its bytes: proofs see those that its reads put into the piece, and
-/// those that its writes said to have taken.
+/// Any stream as a `Wire`, whether or not it tells its bytes: proofs see, in order, those that its reads put into the
+/// piece and those that its writes said to have taken, and which reads found nothing or the end.
 #[derive(Drop)]
 pub struct Told<S> {
     stream: S,
     peer: Option<SocketAddr>,
-    has_ended: bool,
     may_read: bool,
     may_write: bool,
     // whether an end or an urgent mark was reported: a read may stop short of what is there
     may_stop: bool,
     watched: Option<(usize, bool)>,
     // for proofs
-    reads: Log<[u8; PIECE], usize>,
-    writes: Log<Outbox, usize>,
+    turns: Turns,
     reported: Log<Ready, ()>,
 }
 
@@ -38,7 +38,7 @@ impl<S> Model for Told<S> {
 
     ghost Value = { ToldValue };
 
-    ghost view = { λ t. told_value t.peer t.reads.items t.writes.items t.has_ended t.may_read t.may_write t.watched t.reported.items };
+    ghost view = { λ t. told_value t.peer t.turns.items t.may_read t.may_write t.watched t.reported.items };
 
     ghost invariant = { λ t. KeepsStop t.may_stop t.reported.items };
 }
@@ -48,9 +48,7 @@ impl<S: Stream> Told<S> {
     /// and is not known to have bytes.
     pub fn new(stream: S, peer: Option<SocketAddr>) -> Told<S>
         ensures peer { ⟦<Told<S> as Wire>⟧.peer result ≡ peer }
-        ensures given { ⟦<Told<S> as Wire>⟧.given result ≡ [] }
-        ensures got { ⟦<Told<S> as Wire>⟧.got result ≡ [] }
-        ensures ended { ⟦<Told<S> as Wire>⟧.ended result ≡ false }
+        ensures turns { ⟦<Told<S> as Wire>⟧.turns result ≡ [] }
         ensures reads { ⟦<Told<S> as Wire>⟧.reads result ≡ false }
         ensures writes { ⟦<Told<S> as Wire>⟧.writes result ≡ true }
         ensures watched { ⟦<Told<S> as Wire>⟧.watched result ≡ None }
@@ -59,13 +57,11 @@ impl<S: Stream> Told<S> {
         Told {
             stream,
             peer,
-            has_ended: false,
             may_read: false,
             may_write: true,
             may_stop: false,
             watched: None,
-            reads: Log::new(),
-            writes: Log::new(),
+            turns: Turns::new(),
             reported: Log::new(),
         }
     }
@@ -87,9 +83,9 @@ impl<S> Told<S> {
     /// A read found the end, or failed so.
     fn end(&mut self, kind: Option<ErrorKind>) -> Got
         ensures result { result ≡ Got.End kind }
-        ensures ended { self.new ≡ record self.old { ended = true; reads = false } }
+        ensures ended { self.new ≡ record self.old { turns = self.old.turns ++ Over ∷ []; reads = false } }
     {
-        self.has_ended = true;
+        self.turns = self.turns.and(&Did::Over);
         self.may_read = false;
         Got::End(kind)
     }
@@ -98,11 +94,7 @@ impl<S> Told<S> {
 impl<S: Stream> Wire for Told<S> {
     ghost peer = { λ t. t.peer };
 
-    ghost given = { λ t. t.given };
-
-    ghost got = { λ t. t.got };
-
-    ghost ended = { λ t. t.ended };
+    ghost turns = { λ t. t.turns };
 
     ghost reads = { λ t. t.reads };
 
@@ -135,13 +127,14 @@ impl<S: Stream> Wire for Told<S> {
         match self.stream.read(piece) {
             Ok(0) => self.end(None),
             Ok(count) => {
-                self.reads = self.reads.and(piece, &count);
+                self.turns = self.turns.and(&Did::Came(piece, count));
                 // one that left room has found all that was there
                 self.may_read = self.may_read && (self.may_stop || count >= PIECE);
                 Got::Bytes(count)
             }
             Err(error) => match error.kind() {
                 ErrorKind::WouldBlock => {
+                    self.turns = self.turns.and(&Did::Quiet);
                     self.may_read = false;
                     Got::Nothing
                 }
@@ -155,7 +148,7 @@ impl<S: Stream> Wire for Told<S> {
         match self.stream.write(outbox.waiting()) {
             Ok(0) => Sent::Failed(ErrorKind::WriteZero),
             Ok(count) => {
-                self.writes = self.writes.and(outbox, &count);
+                self.turns = self.turns.and(&Did::Went(outbox, count));
                 Sent::Bytes(count)
             }
             Err(error) => match error.kind() {

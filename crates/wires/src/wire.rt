@@ -1,5 +1,6 @@
 ghost use Rattle.std.specs.Prelude.{◌≡◌, ◌||◌, ◌++◌, ◌∷◌, [], Bool, ℕ, List, Option};
-ghost use Rattle.wires.specs.Wires.{Ends, Gives, Takes, has_stop, is_to_read, reads_after, writes_after};
+ghost use Rattle.wires.specs.Turns.{BringsWithin, TakesWithin, Turn, turns_of_read, turns_of_write};
+ghost use Rattle.wires.specs.Wires.{has_stop, is_to_read, reads_after, writes_after};
 ghost use Rattle.std.specs.declared.net.socket_addr.SocketAddr.{SocketAddr};
 ghost use Rattle.wires.specs.declared.ready.Ready.{Ready};
 
@@ -16,13 +17,8 @@ pub trait Wire {
     // for proofs: the address that it was connected to; None of one that was accepted
     ghost peer: { Self → Option SocketAddr };
 
-    // for proofs: all the bytes that were read from it, and all that were written to it
-    ghost given: { Self → List ℕ };
-
-    ghost got: { Self → List ℕ };
-
-    // for proofs: whether a read found its end, or failed
-    ghost ended: { Self → Bool };
+    // for proofs: what was done at it, in order
+    ghost turns: { Self → List Turn };
 
     // for proofs: whether a read may bring something, and a write be taken, by all that was reported and answered
     ghost reads: { Self → Bool };
@@ -36,9 +32,7 @@ pub trait Wire {
 
     /// Is told what became possible.
     fn report(&mut self, ready: Ready)
-        ensures given { given self.new ≡ given self.old }
-        ensures got { got self.new ≡ got self.old }
-        ensures ended { ended self.new ≡ ended self.old }
+        ensures turns { turns self.new ≡ turns self.old }
         ensures reads { reads self.new ≡ (reads self.old || is_to_read ready) }
         ensures writes { writes self.new ≡ (writes self.old || ready.writable) }
         ensures watched { watched self.new ≡ watched self.old }
@@ -59,9 +53,8 @@ pub trait Wire {
 
     /// Reads once, into the first places of the piece.
     fn read(&mut self, piece: &mut [u8; PIECE]) -> Got
-        ensures given { Gives (given self.old) (given self.new) piece.new result }
-        ensures got { got self.new ≡ got self.old }
-        ensures ended { Ends (ended self.old) (ended self.new) result }
+        ensures turns { turns self.new ≡ turns self.old ++ turns_of_read piece.new result }
+        ensures within { BringsWithin piece.new result }
         ensures reads { reads self.new ≡ reads_after (has_stop (reported self.old)) (reads self.old) result }
         ensures writes { writes self.new ≡ writes self.old }
         ensures watched { watched self.new ≡ watched self.old }
@@ -70,9 +63,8 @@ pub trait Wire {
 
     /// Writes once of what waits, from its first byte on.
     fn write(&mut self, outbox: &Outbox) -> Sent
-        ensures got { Takes (got self.old) (got self.new) outbox.now result }
-        ensures given { given self.new ≡ given self.old }
-        ensures ended { ended self.new ≡ ended self.old }
+        ensures turns { turns self.new ≡ turns self.old ++ turns_of_write outbox.now result }
+        ensures within { TakesWithin outbox.now result }
         ensures reads { reads self.new ≡ reads self.old }
         ensures writes { writes self.new ≡ writes_after (writes self.old) result }
         ensures watched { watched self.new ≡ watched self.old }
@@ -81,9 +73,7 @@ pub trait Wire {
 
     /// Ends its sending side: the peer reads what was written before, and then the end.
     fn shut(&mut self)
-        ensures given { given self.new ≡ given self.old }
-        ensures got { got self.new ≡ got self.old }
-        ensures ended { ended self.new ≡ ended self.old }
+        ensures turns { turns self.new ≡ turns self.old }
         ensures reads { reads self.new ≡ reads self.old }
         ensures writes { writes self.new ≡ writes self.old }
         ensures watched { watched self.new ≡ watched self.old }

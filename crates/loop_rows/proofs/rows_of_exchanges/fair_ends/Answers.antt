@@ -1,7 +1,9 @@
-use Rattle.std.proofs.Common.{[], ◌∷◌, false, inl, refl, sym, ◌∙◌}
-use Rattle.std.proofs.lemmas.List.Elements.{All-nil}
-use Rattle.loop_model.specs.Asking.{IsUntouched, request_of, stream_value}
-use Rattle.loop_rows.proofs.ExchangeLemmas.{all_one, answered_by, begins_with_p, found_last, lost_by, lost_by_refusal, no_more, no_some, none_written, not_whole, some_is}
+use Rattle.std.proofs.Common.{[], ◌∷◌, append-nil, inl, refl, sym, ◌∙◌}
+use Rattle.std.proofs.lemmas.List.Elements.{All-cons}
+use Rattle.loop_model.specs.Asking.{IsUntouched, request_of}
+use Rattle.loop_rows.specs.LoopRows.{new_stream, talk}
+use Rattle.loop_model.specs.Streams.{StreamValue}
+use Rattle.loop_rows.proofs.ExchangeLemmas.{IsNew, all_one, answered_by, begins_so, begins_with_p, prefix_of, found_last, lost_by, lost_by_refusal, no_more, no_some, none_written, not_whole, some_is}
 use Rattle.loop_rows.proofs.rows_of_exchanges.fair_ends.Goals as goal
 
 pub returns-clause-answered : goal.returns-clause-answered
@@ -15,18 +17,23 @@ returns-clause-refused c f a j fault given cut = lost_by_refusal f a j given (c.
 
 pub returns-clause-unwritten : goal.returns-clause-unwritten
 returns-clause-unwritten c f a j given front more b is = record {
-  begun = record { untouched = All-nil IsUntouched; prefix = (b ∷ more, is); addressed = found_last a j _ _ _ };
-  outcome = λ o same. inl (sym (some_is _ o same), λ whole. absurd (no_more front more b (whole ∙ is)));
+  begun = begins_so a j (talk front given) (prefix_of (request_of j) front (b ∷ more) is);
+  outcome = λ o same. inl (sym (some_is _ o same), λ whole. absurd (no_more front more b (sym (append-nil front) ∙ whole ∙ is)));
 }
 
 pub returns-clause-no_memory : goal.returns-clause-no_memory
 returns-clause-no_memory c f a j given front more is = record {
-  begun = record { untouched = All-nil IsUntouched; prefix = (more, is); addressed = found_last a j _ _ _ };
+  begun = begins_so a j (talk front given) (prefix_of (request_of j) front more is);
   outcome = λ o none. absurd (no_some o none);
 }
 
 pub returns-clause-another_tried : goal.returns-clause-another_tried
 returns-clause-another_tried c f a j = record {
-  begun = record { untouched = all_one IsUntouched (stream_value a [] [] false) (refl, refl); prefix = (request_of j, refl); addressed = found_last a j _ _ _ };
+  begun = record {
+    new = All-cons IsNew (new_stream a []) (new_stream a [] ∷ []) refl (all_one IsNew (new_stream a []) refl);
+    untouched = all_one IsUntouched (new_stream a []) (refl, refl);
+    prefix = (request_of j, refl);
+    addressed = found_last a j (new_stream a [] ∷ []) [];
+  };
   outcome = λ o same. inl (sym (some_is _ o same), λ whole. absurd (none_written (request_of j) (begins_with_p j) (sym whole)));
 }

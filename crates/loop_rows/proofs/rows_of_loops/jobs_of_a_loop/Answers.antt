@@ -5,6 +5,7 @@ use Rattle.loop_model.specs.Found.{AreOfName}
 use Rattle.loop_rows.specs.LoopRows.{asking}
 use Rattle.loop_rows.proofs.ExchangeLemmas.{all_one}
 use Rattle.loop_rows.proofs.LostLemmas.{begins_at_first, nowhere, second}
+use Rattle.loop_rows.proofs.ShareRows.{none_shared, one_shared}
 use Rattle.loop_rows.proofs.rows_of_loops.jobs_of_a_loop.Goals as goal
 
 pub returns-clause-asked : goal.returns-clause-asked
@@ -14,6 +15,7 @@ returns-clause-asked c f v j = record {
   begun = λ i x is. subst (λ t. BeginsRequest t) (second i (asking j) x is) (begins_at_first j);
   found = λ i x is. inl (ap (λ (t : AskingValue). t.found) (sym (second i (asking j) x is)));
   found_ended = All-nil (λ (e : EndedValue). AreOfName e.asking.job.address e.asking.found []);
+  shared = none_shared;
   jobs = λ p. omega arith;
 }
 
@@ -24,5 +26,6 @@ returns-clause-over c f v e fair none = record {
   begun = λ i x is. absurd (nowhere i x is);
   found = λ i x is. absurd (nowhere i x is);
   found_ended = all_one (λ (d : EndedValue). AreOfName d.asking.job.address d.asking.found []) e (inl none);
+  shared = one_shared e fair.begun.new;
   jobs = λ p. omega arith;
 }

@@ -1,21 +1,24 @@
-use Rattle.std.proofs.Common.{[], ◌∷◌, None, ap, arith, codes, length, refl, ◌∙◌, ⊎_elim}
-use Rattle.std.proofs.lemmas.List.{length-append}
-use Rattle.loop_rows.specs.LoopRows.{asked, asked_at_peer, asking, asks, job, loop_of}
-use Rattle.loop_rows.proofs.LostLemmas.{no_peer, none_is, nothing_since, one_peer, some_is}
+use Rattle.std.proofs.Common.{◌≡◌, [], ◌∷◌, None, Some, ap, arith, codes, length, refl, sym, ◌∙◌, ⊎_elim}
+use Rattle.loop_model.specs.Asking.{AskingValue}
+use Rattle.loop_model.specs.Streams.{StreamValue}
+use Rattle.loop_model.specs.Whole.{IsSameStream}
+use Rattle.loop_rows.specs.LoopRows.{asked, asked_at_peer, asking, asks, job, loop_of, new_stream}
+use Rattle.wires.specs.Turns.{Went}
+use Rattle.loop_rows.proofs.LostLemmas.{no_stream, none_is, nothing_since, some_is, some_stream}
 use Rattle.loop_rows.proofs.RowLemmas.{any_fixed}
 use Rattle.loop_rows.proofs.rows_of_loops.jobs_that_are_lost.Goals as goal
 
 pub returns-clause-forgotten : goal.returns-clause-forgotten
 returns-clause-forgotten c h f v j s =
-    let a = s.asking 0 (asked h j [] [] (codes "P")) refl in
+    let a = s.asking 0 (asked h j [] (Went (codes "P") ∷ [])) refl in
     ⊎_elim
     (λ here.
     let is = some_is (asking j) a.0 here in
     ⊎_elim
-    (λ k. omega (arith, ap (λ y. length y.got) is, ap (λ l. length l) k.got.1, length-append (codes "P") k.got.0))
+    (λ k. ⊎_elim (λ none. no_stream (new_stream h (Went (codes "P") ∷ [])) none) (λ (t : (t : StreamValue) × (a.0.stream ≡ Some t) × IsSameStream (new_stream h (Went (codes "P") ∷ [])) t). no_stream t.0 (sym (ap (λ (y : AskingValue). y.stream) is ∙ t.1))) k.stream)
     (λ g. omega (arith, ap (λ y. length y.tried) is, ap (λ l. length l) g.tried_are))
     a.2.streams)
-    (λ e. nothing_since (asks f v (asked h j [] [] (codes "P"))) (asks f v (asking j)) a.0 refl e)
+    (λ e. nothing_since (asks f v (asked h j [] (Went (codes "P") ∷ []))) (asks f v (asking j)) a.0 refl e)
     a.1
 
 pub returns-clause-another : goal.returns-clause-another
@@ -28,15 +31,16 @@ returns-clause-another c f v s =
 
 pub returns-clause-unseen : goal.returns-clause-unseen
 returns-clause-unseen c h b f v j other s =
-    let a = s.asking 0 (asked h j [] [] []) refl in
+    let a = s.asking 0 (asked h j [] []) refl in
     ⊎_elim
     (λ here.
     let is = some_is (asked_at_peer b (h ∷ b ∷ []) j) a.0 here in
     ⊎_elim
-    (λ k. ⊎_elim (λ none. no_peer h none) (λ same. other (one_peer b h (ap (λ y. y.peer) is ∙ same))) k.peer)
+    (λ k. ⊎_elim (λ none. no_stream (new_stream h []) none)
+    (λ (t : (t : StreamValue) × (a.0.stream ≡ Some t) × IsSameStream (new_stream h []) t). other (ap (λ (s : StreamValue). s.peer) (some_stream (new_stream b []) t.0 (ap (λ (y : AskingValue). y.stream) is ∙ t.1)) ∙ t.2.peer)) k.stream)
     (λ g. omega (arith, ap (λ y. length y.tried) is, ap (λ l. length l) g.tried_are))
     a.2.streams)
-    (λ e. nothing_since (asks f v (asked h j [] [] [])) (asks f v (asked_at_peer b (h ∷ b ∷ []) j)) a.0 refl e)
+    (λ e. nothing_since (asks f v (asked h j [] [])) (asks f v (asked_at_peer b (h ∷ b ∷ []) j)) a.0 refl e)
     a.1
 
 pub returns-clause-dropped : goal.returns-clause-dropped

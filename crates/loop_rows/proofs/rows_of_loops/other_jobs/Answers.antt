@@ -1,6 +1,7 @@
-use Rattle.std.proofs.Common.{[], ◌++◌, true, length, ap, arith, codes, refl}
+use Rattle.std.proofs.Common.{[], ◌∷◌, ◌++◌, true, length, ap, arith, codes, refl}
 use Rattle.loop_model.specs.Asking.{request_of}
 use Rattle.loop_rows.specs.LoopRows.{asked}
+use Rattle.wires.specs.Turns.{Went}
 use Rattle.loop_rows.proofs.RowLemmas.{other_first}
 use Rattle.loop_rows.proofs.ExchangeLemmas.{begins_with_p, first_outcome, job_number, longer_than_none, some_outcome}
 use Rattle.loop_rows.proofs.rows_of_loops.other_jobs.Goals as goal
@@ -25,8 +26,8 @@ returns-clause-otherwise c h f v j o a = some_outcome o (ap first_outcome a.resu
 
 pub returns-clause-request : goal.returns-clause-request
 returns-clause-request c h f v j a =
-    let b = (a.begun 0 (asked h j [] [] (codes "GET")) refl).prefix in
-    other_first (request_of j) (codes "GET" ++ b.0) (λ f. omega (arith, f, begins_with_p j)) b.1
+    let b = (a.begun 0 (asked h j [] (Went (codes "GET") ∷ [])) refl).prefix in
+    other_first (request_of j) ((codes "GET" ++ []) ++ b.0) (λ f. omega (arith, f, begins_with_p j)) b.1
 
 pub returns-clause-anew : goal.returns-clause-anew
 returns-clause-anew c f v e s = longer_than_none e s.ended.0 s.ended.1

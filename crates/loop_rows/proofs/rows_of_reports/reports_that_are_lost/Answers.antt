@@ -4,8 +4,8 @@ use Rattle.std.proofs.lemmas.List.{length-append}
 use Rattle.loop_model.specs.Asking.{AskingValue}
 use Rattle.loop_model.specs.Clients.{ClientValue}
 use Rattle.loop_model.specs.Reports.{tell, told_asking, told_client}
-use Rattle.loop_rows.specs.LoopRows.{asked, client_of, loop_with, readable}
-use Rattle.loop_rows.proofs.LostLemmas.{no_peer, nothing_since, some_is}
+use Rattle.loop_rows.specs.LoopRows.{asked, client_of, loop_with, new_stream, readable}
+use Rattle.loop_rows.proofs.LostLemmas.{no_stream, nothing_since, some_is}
 use Rattle.loop_rows.proofs.rows_of_reports.reports_that_are_lost.Goals as goal
 use Rattle.wires.specs.declared.ready.Ready.{Ready}
 
@@ -30,13 +30,13 @@ returns-clause-lost c v s =
 
 pub returns-clause-of_a_job : goal.returns-clause-of_a_job
 returns-clause-of_a_job c h v j s =
-    let x : AskingValue = asked h j [] [] [] in
+    let x : AskingValue = asked h j [] [] in
     let a = s.asking 0 (told_asking (readable 1) x) refl in
     ⊎_elim
     (λ here.
     let is = some_is x a.0 here in
     ⊎_elim
-    (λ k. ⊎_elim (λ none. no_peer h none)
+    (λ k. ⊎_elim (λ none. no_stream (new_stream h []) none)
     (λ more. omega (arith, ap (λ (y : AskingValue). length y.reported) is, ap (λ (l : List Ready). length l) more.1, length-append (readable 1 ∷ []) more.0)) k.reported)
     (λ g. omega (arith, ap (λ (y : AskingValue). length y.tried) is, ap (λ l. length l) g.tried_are))
     a.2.streams)

@@ -45,7 +45,7 @@ only_one P x own (suc i) y is = absurd (nobody y is)
 pub returns-clause-named : goal.returns-clause-named
 returns-clause-named c v j none no_deadline wanted no_limit = record {
   clients = λ i x is. absurd (nobody x is);
-  asking = only_one (λ (i : ℕ) (x : AskingValue). RestsAsking (shown v) None i x) (standing_job j [] false false false) record {
+  asking = only_one (λ (i : ℕ) (x : AskingValue). RestsAsking (shown v) None i x) (standing_job j false false false) record {
     wanted = wanted;
     goes_on = refl;
     limited = (subst (λ (l : Option ℕ). AtMost None l) (sym no_limit) tt, tt);
@@ -53,13 +53,13 @@ returns-clause-named c v j none no_deadline wanted no_limit = record {
     unread = λ some. refl;
     unsent = λ unsent. refl;
   };
-  named = only_one (λ (i : ℕ) (x : AskingValue). x.peer ≡ None → Contains (j.address ∷ []) x.job.address) (standing_job j [] false false false) (λ alone. (0, omega arith, refl));
+  named = only_one (λ (i : ℕ) (x : AskingValue). x.stream ≡ None → Contains (j.address ∷ []) x.job.address) (standing_job j false false false) (λ alone. (0, omega arith, refl));
   jobs = inl none;
   deadline = subst (λ (l : Option ℕ). AtMost None l) (sym no_deadline) tt;
 }
 
 pub returns-clause-unnamed : goal.returns-clause-unnamed
-returns-clause-unnamed c v until j r = nothing j.address (r.named 0 (standing_job j [] false false false) refl refl)
+returns-clause-unnamed c v until j r = nothing j.address (r.named 0 (standing_job j false false false) refl refl)
 
 pub returns-clause-anothers : goal.returns-clause-anothers
-returns-clause-anothers c v until j other apart r = apart (only other j.address (r.named 0 (standing_job j [] false false false) refl refl))
+returns-clause-anothers c v until j other apart r = apart (only other j.address (r.named 0 (standing_job j false false false) refl refl))

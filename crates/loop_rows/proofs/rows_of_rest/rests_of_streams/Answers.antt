@@ -1,4 +1,4 @@
-use Rattle.std.proofs.Common.{◌≡◌, ◌∷◌, ap, ℕ, Bool, List, [], Option, Some, None, arith, inl, refl, subst, sym, ◌∙◌, true, false}
+use Rattle.std.proofs.Common.{◌≡◌, ◌∷◌, append-nil, ap, ℕ, Bool, List, [], Option, Some, None, arith, inl, refl, subst, sym, ◌∙◌, true, false}
 use Rattle.loop_model.specs.Asking.{request_of}
 use Rattle.loop_model.specs.Rest.{AtMost}
 use Rattle.loop_rows.proofs.RowLemmas.{off_on}
@@ -40,7 +40,7 @@ returns-clause-job c a s until j wanted none = record {
   wanted = wanted;
   goes_on = refl;
   limited = (subst (λ (l : Option ℕ). AtMost until l) (sym none) tt, tt);
-  watched = λ there. (false, refl, λ unsent. absurd (unsent refl));
+  watched = λ there. (false, refl, λ unsent. absurd (unsent (append-nil (request_of j))));
   unread = λ some. refl;
   unsent = λ unsent. refl;
 }

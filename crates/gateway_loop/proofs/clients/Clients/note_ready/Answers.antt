@@ -5,7 +5,7 @@ use Rattle.gateway_loop.proofs.GrowLemmas.{continues_put, continues_same, grows_
 use Rattle.gateway_loop.proofs.Places.{changed_none, changed_some, put_set}
 use Rattle.gateway_loop.proofs.CountLemmas.{there_still}
 use Rattle.gateway_loop.proofs.HistoryLemmas.{goes_steps, serves_on}
-use Rattle.loop_model.specs.Streams.{closed_value}
+use Rattle.loop_model.specs.Streams.{closed_turns}
 use Rattle.gateway_loop.proofs.StepLemmas.{fits_moved, steps_fit}
 use Rattle.gateway_loop.proofs.clients.Clients.note_ready.Goals as goal
 use Rattle.gateway_loop.proofs.clients.Clients.note_ready.Goals.{in-Some, in_default}
@@ -25,7 +25,7 @@ invariant_of-self g c =
 pub returns-clause-exact : goal.returns-clause-exact
 returns-clause-exact g c =
     let i = c.self.inside in
-    let with_slots = λ (slots : List (Option ClientValue)). loop_value i.core slots i.gone.items (map (λ u. closed_value (g.W.Wire.peer u.0) (g.W.Wire.given u.0) (g.W.Wire.got u.0)) i.unserved.items) i.told.items i.results.items i.handed.items i.drained in
+    let with_slots = λ (slots : List (Option ClientValue)). loop_value i.core slots i.gone.items (map (λ u. closed_turns (g.W.Wire.peer u.0) (g.W.Wire.turns u.0)) i.unserved.items) i.told.items i.results.items i.handed.items i.drained in
     rw (← c.self.view_is) (elim c.match-get_mut.branch [
       | in-Some w ↦ rw w.self-inside-is
           (ap with_slots (ap (λ (y : ClientValue). slice_set i.clients.slots c.args.place (Some y)) w.report.ensures

@@ -1,13 +1,23 @@
-use Rattle.gateway_loop.proofs.Words.{sym, beside, map}
-use Rattle.gateway_loop.proofs.AskLemmas.{keeps_back, over_back}
+use Rattle.gateway_loop.proofs.Words.{ap, sym, AskingState, beside, map}
+use Rattle.gateway_loop.proofs.AskLemmas.{goes_over, keeps_put}
+use Rattle.gateway_loop.proofs.Places.{put_set}
 use Rattle.gateway_loop.proofs.event_loop.EventLoop.connect.Goals as goal
+
+pub invariant_of-self : goal.invariant_of-self
+invariant_of-self g c = c.self.invariant
 
 pub invariant_of-self-2 : goal.invariant_of-self-2
 invariant_of-self-2 g c =
-    let put = c.insert_reserved-place.ensures in
-    keeps_back c.self.inside.framing (map (λ f. f.0) c.self.inside.looked_up.items) c.self.inside.clients c.self.inside.ended.items c.try_remove.ensures.updates c.in-Some.ensures.key_is_next put.key put.updates (sym c.in-Some.ensures.value) c.connect-connected.ensures.job c.connect-connected.ensures.framing c.connect-connected.ensures.found c.begun_law.ensures.begun c.begun_law.ensures.untouched c.self.invariant
+    let i = c.self.inside in
+    keeps_put i.framing (map (λ s. s.0.stream) i.left.items) (map (λ f. f.0) i.looked_up.items) i.clients i.asking.slots _ i.ended.items c.args.place c.in-Some.asking.now c.connect-connected.new.self (sym c.in-Some.ensures.value)
+    c.connect-connected.ensures.job c.connect-connected.ensures.framing c.connect-connected.ensures.found
+    (put_set i.asking.slots c.args.place c.in-Some.asking.now c.connect-connected.new.self (sym c.in-Some.ensures.value)) c.begun_law.ensures.begun c.begun_law.ensures.untouched c.self.invariant
 
 pub returns : goal.returns
 returns g c =
-    let put = c.insert_reserved-place.ensures in
-    record { goes = rw (← c.self.view_is) (over_back c.self.inside.framing (map (λ f. f.0) c.self.inside.looked_up.items) c.self.inside.clients c.self.inside.ended.items (beside c.self.inside.closing (map (λ f. f.0) c.self.inside.looked_up.items) c.self.inside.names) c.try_remove.ensures.updates c.in-Some.ensures.key_is_next put.key put.updates (sym c.in-Some.ensures.value) c.connect-connected.ensures.on c.connect-connected.ensures.streams) }
+    let i = c.self.inside in
+    record {
+      goes = rw (← c.self.view_is) (
+          goes_over i.asking.slots _ c.args.place i.framing i.clients i.ended.items (beside (map (λ s. s.0.stream) i.left.items) i.closing (map (λ f. f.0) i.looked_up.items) i.names) c.in-Some.asking.now c.connect-connected.new.self (sym c.in-Some.ensures.value)
+          (put_set i.asking.slots c.args.place c.in-Some.asking.now c.connect-connected.new.self (sym c.in-Some.ensures.value)) c.connect-connected.ensures.on c.connect-connected.ensures.streams);
+    }

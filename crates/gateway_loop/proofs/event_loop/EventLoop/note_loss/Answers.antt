@@ -1,13 +1,28 @@
-use Rattle.gateway_loop.proofs.Words.{sym, beside, map}
-use Rattle.gateway_loop.proofs.AskLemmas.{goes_back, keeps_back}
+use Rattle.gateway_loop.proofs.Words.{ap, sym, AskingState, beside, map}
+use Rattle.gateway_loop.proofs.AskLemmas.{goes_put, goes_same, keeps_put, same_streams}
+use Rattle.gateway_loop.proofs.Places.{put_set}
 use Rattle.gateway_loop.proofs.event_loop.EventLoop.note_loss.Goals as goal
+use Rattle.gateway_loop.proofs.event_loop.EventLoop.note_loss.Goals.{in-Some, in_default}
 
-pub invariant_of-self-2 : goal.invariant_of-self-2
-invariant_of-self-2 g c =
-    let put = c.insert_reserved-place.ensures in
-    keeps_back c.self.inside.framing (map (λ f. f.0) c.self.inside.looked_up.items) c.self.inside.clients c.self.inside.ended.items c.try_remove.ensures.updates c.in-Some.ensures.key_is_next put.key put.updates (sym c.in-Some.ensures.value) c.lose.ensures.job c.lose.ensures.framing c.lose.ensures.found c.begun_law.ensures.begun c.begun_law.ensures.untouched c.self.invariant
+pub invariant_of-self : goal.invariant_of-self
+invariant_of-self g c =
+    let i = c.self.inside in
+    elim c.match-get_mut.branch [
+      | in-Some w ↦ rw w.self-inside-is
+          (keeps_put i.framing (map (λ s. s.0.stream) i.left.items) (map (λ f. f.0) i.looked_up.items) i.clients i.asking.slots _ i.ended.items c.args.place w.in-Some.asking.now w.lose.new.self (sym w.in-Some.ensures.value)
+          w.lose.ensures.job w.lose.ensures.framing w.lose.ensures.found
+          (put_set i.asking.slots c.args.place w.in-Some.asking.now w.lose.new.self (sym w.in-Some.ensures.value)) w.begun_law.ensures.begun w.begun_law.ensures.untouched c.self.invariant)
+      | in_default w ↦ rw w.self-inside-is c.self.invariant
+    ]
 
 pub returns : goal.returns
 returns g c =
-    let put = c.insert_reserved-place.ensures in
-    record { goes = rw (← c.self.view_is) (λ a. goes_back c.self.inside.framing (map (λ f. f.0) c.self.inside.looked_up.items) c.self.inside.clients c.self.inside.ended.items (beside c.self.inside.closing (map (λ f. f.0) c.self.inside.looked_up.items) c.self.inside.names) c.try_remove.ensures.updates c.in-Some.ensures.key_is_next put.key put.updates (sym c.in-Some.ensures.value) c.lose.ensures.on c.lose.ensures.streams a) }
+    let i = c.self.inside in
+    record {
+      goes = rw (← c.self.view_is) (elim c.match-get_mut.branch [
+        | in-Some w ↦ rw w.self-inside-is (λ a.
+            goes_put i.asking.slots _ c.args.place i.framing i.clients i.ended.items (beside (map (λ s. s.0.stream) i.left.items) i.closing (map (λ f. f.0) i.looked_up.items) i.names) w.in-Some.asking.now w.lose.new.self (sym w.in-Some.ensures.value)
+            (put_set i.asking.slots c.args.place w.in-Some.asking.now w.lose.new.self (sym w.in-Some.ensures.value)) w.lose.ensures.on w.lose.ensures.streams a)
+        | in_default w ↦ rw w.self-inside-is (λ a. goes_same _)
+      ]);
+    }

@@ -10,7 +10,7 @@ invariant_of-self g c =
     let i = c.self.inside in
     elim c.match-get_mut.branch [
       | in-Some w ↦ rw w.self-inside-is
-          (keeps_put i.framing (map (λ f. f.0) i.looked_up.items) i.clients i.asking.slots _ i.ended.items c.args.place w.in-Some.asking.now w.report.new.self (sym w.in-Some.ensures.value)
+          (keeps_put i.framing (map (λ s. s.0.stream) i.left.items) (map (λ f. f.0) i.looked_up.items) i.clients i.asking.slots _ i.ended.items c.args.place w.in-Some.asking.now w.report.new.self (sym w.in-Some.ensures.value)
           (ap (λ (x : AskingState). x.job) w.report.ensures.noted) (ap (λ (x : AskingState). x.framing) w.report.ensures.noted) (ap (λ (x : AskingState). x.addresses.found) w.report.ensures.noted)
           (put_set i.asking.slots c.args.place w.in-Some.asking.now w.report.new.self (sym w.in-Some.ensures.value)) w.begun_law.ensures.begun w.begun_law.ensures.untouched c.self.invariant)
       | in_default w ↦ rw w.self-inside-is c.self.invariant
@@ -19,7 +19,7 @@ invariant_of-self g c =
 pub returns-clause-exact : goal.returns-clause-exact
 returns-clause-exact g c =
     let i = c.self.inside in
-    let with_asking = λ (asking : List (Option AskingValue)). record (whole_loop i.framing i.clients i.asking.slots i.ended.items (beside i.closing (map (λ f. f.0) i.looked_up.items) i.names)) { asking = asking } in
+    let with_asking = λ (asking : List (Option AskingValue)). record (whole_loop i.framing i.clients i.asking.slots i.ended.items (beside (map (λ s. s.0.stream) i.left.items) i.closing (map (λ f. f.0) i.looked_up.items) i.names)) { asking = asking } in
     rw (← c.self.view_is) (elim c.match-get_mut.branch [
       | in-Some w ↦ rw w.self-inside-is
           (ap with_asking
@@ -32,8 +32,8 @@ returns-clause-goes g c =
     let i = c.self.inside in
     rw (← c.self.view_is) (elim c.match-get_mut.branch [
       | in-Some w ↦ rw w.self-inside-is (λ a.
-          goes_put i.asking.slots _ c.args.place i.framing i.clients i.ended.items (beside i.closing (map (λ f. f.0) i.looked_up.items) i.names) w.in-Some.asking.now w.report.new.self (sym w.in-Some.ensures.value)
+          goes_put i.asking.slots _ c.args.place i.framing i.clients i.ended.items (beside (map (λ s. s.0.stream) i.left.items) i.closing (map (λ f. f.0) i.looked_up.items) i.names) w.in-Some.asking.now w.report.new.self (sym w.in-Some.ensures.value)
           (put_set i.asking.slots c.args.place w.in-Some.asking.now w.report.new.self (sym w.in-Some.ensures.value)) w.report.ensures.on
-          (same_streams w.in-Some.asking.now w.report.new.self (ap (λ (x : AskingState). x.tried) w.report.ensures.noted) (ap (λ (x : AskingState). x.attempt.peer) w.report.ensures.noted)) a)
+          (same_streams w.in-Some.asking.now w.report.new.self (ap (λ (x : AskingState). x.tried) w.report.ensures.noted) (ap (λ (x : AskingState). x.attempt.stream) w.report.ensures.noted)) a)
       | in_default w ↦ rw w.self-inside-is (λ a. goes_same _)
     ])
