@@ -44,12 +44,11 @@ pub(crate) struct LoopSide {
     // how it stood after its last turn
     standing: Mutex<LoopStanding>,
     is_closed: AtomicBool,
-    /// Whether connections are to be closed as soon as nothing is owed to them.
-    pub(crate) closes_idle: AtomicBool,
-    /// Whether calls that are left are to be ended.
-    pub(crate) ends_calls: AtomicBool,
-    /// Whether streams that are left are to be cut.
-    pub(crate) is_cut: AtomicBool,
+    // whether connections are to be closed as soon as nothing is owed to them, calls that are left to be ended, and
+    // streams that are left to be cut
+    closes_idle: AtomicBool,
+    ends_calls: AtomicBool,
+    is_cut: AtomicBool,
     is_over: AtomicBool,
 }
 
@@ -120,6 +119,19 @@ impl LoopSide {
         };
         if !is_known {
             self.wake(rt);
+        }
+    }
+
+    /// The last stage of a drain that has come.
+    pub(crate) fn stage(&self) -> Stage {
+        if self.is_cut.load(Ordering::SeqCst) {
+            Stage::Cuts
+        } else if self.ends_calls.load(Ordering::SeqCst) {
+            Stage::Ends
+        } else if self.closes_idle.load(Ordering::SeqCst) {
+            Stage::Closes
+        } else {
+            Stage::Serves
         }
     }
 

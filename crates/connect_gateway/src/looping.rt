@@ -1,4 +1,5 @@
-ghost use Rattle.std.specs.Prelude.{⊤, ◌≡◌, ◌∷◌, []};
+ghost use Rattle.connect_gateway.specs.Looping.{LoopingValue, closes_idle, ends_calls, looping_value};
+ghost use Rattle.std.specs.Prelude.{⊤, ◌≡◌, ◌||◌, ◌∷◌, [], IfOk, false, true};
 
 use crate::host::{Host, NetHost, SinceStart};
 use crate::loop_log::{LogLines, LoopLog};
@@ -7,7 +8,7 @@ use crate::main_side::MainSide;
 use crate::resolver::Resolver;
 use crate::socket::Socket;
 use access_log::Caller;
-use admin::{LoopCounts, ServedNames};
+use admin::{LoopCounts, ServedNames, Stage};
 use call_plan::Plans;
 use crossbeam_channel::Receiver;
 use gateway_core::{CallId, ConnId, Job, ReplyEntry, RequestLabel};
@@ -59,7 +60,7 @@ impl<M> Model for Common<M> {
     ghost view = { λ _. tt };
 }
 
-/// A loop, and what its thread needs to run it.
+/// A loop, and what its thread needs to run it. Contracts see the plans that it serves, and whether it was drained.
 #[derive(Drop)]
 pub(crate) struct Looping<M> {
     rt: M,
@@ -76,16 +77,23 @@ pub(crate) struct Looping<M> {
     has_idle: bool,
 }
 
-// Clauses see nothing of it, which keeps proofs small.
 impl<M> Model for Looping<M> {
-    ghost Value = { ⊤ };
+    ghost use Rattle.std.specs.Prelude.{◌≡◌};
+    ghost use Rattle.connect_gateway.specs.Looping.{LoopingValue, looping_value};
 
-    ghost view = { λ _. tt };
+    ghost Value = { LoopingValue };
+
+    ghost view = { λ l. looping_value l.event_loop };
+
+    ghost invariant = { λ l. l.has_ended_calls ≡ l.event_loop.side.drained };
 }
 
 impl<M: NetHost> Looping<M> {
     /// The loop with that number, which serves these plans. `Io` where the system offers it no sockets to wait for.
-    pub(crate) fn new(common: &Common<M>, worker: u32, plans: Plans) -> Result<Looping<M>, Fault> {
+    pub(crate) fn new(common: &Common<M>, worker: u32, plans: Plans) -> Result<Looping<M>, Fault>
+        ensures serves { IfOk result (λ l. l.plans ≡ plans) }
+        ensures undrained { IfOk result (λ l. l.drained ≡ false) }
+    {
         let poll = Poll::new(&common.rt)?;
         let waker = Waker::new(poll.registry(), WAKER)?;
         let names = common.names.as_ref();
@@ -139,28 +147,49 @@ impl<M: NetHost> Looping<M> {
             }
             // what was handed in before main closed it is there by then
             let is_closed = self.side.is_closed();
-            let closes_idle = self.side.closes_idle.load(Ordering::SeqCst);
+            let stage = self.side.stage();
             self.take_mail();
-            self.event_loop.turn(&mut self.network, &mut self.comings);
-            if closes_idle {
-                self.close_idle();
-            }
+            self.turn(stage);
             self.side.tell(&rt, self.event_loop.standing());
             let are_gone = is_closed && self.mail.is_empty() && self.event_loop.is_empty();
-            if are_gone || self.side.is_cut.load(Ordering::SeqCst) {
+            if are_gone || self.side.stage() == Stage::Cuts {
                 return true;
             }
         }
         unreachable!()
     }
 
-    /// Closes connections to which nothing is owed, of which nothing is unread; and ends the calls that are left, once,
-    /// if they are to end.
-    fn close_idle(&mut self) {
-        if self.is_to_end_calls() {
+    /// A turn, and what this stage of a drain asks for. The calls that are left are ended from the stage on that asks for
+    /// that, and in no other.
+    fn turn(&mut self, stage: Stage)
+        ensures plans { self.new.plans ≡ self.old.plans }
+        ensures drained { self.new.drained ≡ (self.old.drained || ends_calls stage) }
+    {
+        self.event_loop.turn(&mut self.network, &mut self.comings);
+        if ends_calls(stage) {
+            self.end_calls();
+        }
+        if closes_idle(stage) {
+            self.close_idle();
+        }
+    }
+
+    /// Ends the calls that are left, once.
+    fn end_calls(&mut self)
+        ensures plans { self.new.plans ≡ self.old.plans }
+        ensures drained { self.new.drained ≡ true }
+    {
+        if !self.has_ended_calls {
             self.has_ended_calls = true;
             self.event_loop.drain(&mut self.network);
         }
+    }
+
+    /// Closes connections to which nothing is owed, of which nothing is unread.
+    fn close_idle(&mut self)
+        ensures plans { self.new.plans ≡ self.old.plans }
+        ensures drained { self.new.drained ≡ self.old.drained }
+    {
         // what came meanwhile is read first, and all of it
         let waited = self.network.wait(NextTurn::AtOnce, &mut self.comings.ready);
         self.has_idle = !matches!(waited, Ok(false));
@@ -172,15 +201,12 @@ impl<M: NetHost> Looping<M> {
         }
     }
 
-    fn is_to_end_calls(&self) -> bool {
-        self.side.ends_calls.load(Ordering::SeqCst) && !self.has_ended_calls
-    }
-
     /// When a turn is due though the loop is not woken.
     fn next_turn(&mut self) -> NextTurn {
         // a wake-up may have come while it was looked at what came meanwhile
-        let is_cut = self.side.is_cut.load(Ordering::SeqCst);
-        if self.mail.is_empty() && !self.is_to_end_calls() && !is_cut && !self.has_idle {
+        let stage = self.side.stage();
+        let is_to_end_calls = ends_calls(stage) && !self.has_ended_calls;
+        if self.mail.is_empty() && !is_to_end_calls && stage != Stage::Cuts && !self.has_idle {
             self.event_loop.next_turn()
         } else {
             NextTurn::AtOnce
@@ -201,6 +227,20 @@ impl<M: NetHost> Looping<M> {
             }
         }
     }
+}
+
+/// Whether calls that are left are to be ended at that stage of a drain.
+fn ends_calls(stage: Stage) -> bool
+    ensures { result ≡ ends_calls stage }
+{
+    matches!(stage, Stage::Ends | Stage::Cuts)
+}
+
+/// Whether connections are to be closed then as soon as nothing is owed to them.
+fn closes_idle(stage: Stage) -> bool
+    ensures { result ≡ closes_idle stage }
+{
+    matches!(stage, Stage::Closes | Stage::Ends | Stage::Cuts)
 }
 
 /// The token of a loop's waker.

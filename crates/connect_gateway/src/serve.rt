@@ -1,3 +1,7 @@
+ghost use Rattle.call_plan.specs.PlanFile.{plans_in};
+ghost use Rattle.connect_gateway.specs.Looping.{AreOfFile, ServeFile};
+ghost use Rattle.std.specs.Prelude.{◌≡◌, ℕ, IfOk, List};
+
 use crate::admin_door::AdminDoor;
 use crate::dealer::Dealer;
 use crate::host::{Host, NetHost, SinceStart};
@@ -110,24 +114,34 @@ struct ServedPlans {
 }
 
 impl ServedPlans {
-    fn of(alloc: Global, file: &PlanFile, workers: u32) -> Result<ServedPlans, Fault> {
+    /// What this file gives to so many workers.
+    fn of(alloc: Global, file: &PlanFile, workers: u32) -> Result<ServedPlans, Fault>
+        ensures { IfOk result (λ served. AreOfFile file.now served.of_workers.items) }
+    {
         let names_looked_up = file.names(alloc)?;
         let paths = file.paths(alloc)?;
         let count = paths.len();
         let plans = file.plans(alloc)?;
         let names = ServedNames::of(alloc, paths, &plans)?;
         let names = Arc::new(alloc, names)?;
-        let mut of_workers = Vec::new(alloc);
-        for _worker in 0..workers {
-            of_workers.push(file.plans(alloc)?)?;
-        }
         Ok(ServedPlans {
-            of_workers,
+            of_workers: plans_of(alloc, file, workers)?,
             names,
             count,
             names_looked_up,
         })
     }
+}
+
+/// The plans of the file, for each of so many workers.
+fn plans_of(alloc: Global, file: &PlanFile, workers: u32) -> Result<Vec<Plans>, Fault>
+    ensures { IfOk result (λ plans. AreOfFile file.now plans.items) }
+{
+    let mut plans = Vec::new(alloc);
+    for _worker in 0..workers {
+        plans.push(file.plans(alloc)?)?;
+    }
+    Ok(plans)
 }
 
 /// Who accepts the streams of clients, whose address is listened at first, and attends to operators, if there is an
@@ -309,11 +323,15 @@ fn serve_by<M: NetHost>(
     }
 }
 
-/// A loop for each of these plans.
-fn loopings<M: NetHost>(common: &Common<M>, plans: Vec<Plans>) -> Result<Vec<Looping<M>>, Fault> {
+/// A loop for each of these plans, from the last to the first.
+fn loopings<M: NetHost>(common: &Common<M>, plans: Vec<Plans>) -> Result<Vec<Looping<M>>, Fault>
+    ensures { (file : List ℕ) → AreOfFile file plans.items → IfOk result (λ loops. ServeFile file loops.items) }
+{
+    let mut plans = plans;
     let mut loopings = Vec::new(common.alloc);
-    for (worker, plans) in (0..u32::MAX).zip(plans) {
-        loopings.push(Looping::new(common, worker, plans)?)?;
+    while let Some(last) = plans.pop() {
+        let worker = u32::try_from(loopings.len()).unwrap_or(u32::MAX);
+        loopings.push(Looping::new(common, worker, last)?)?;
     }
     Ok(loopings)
 }
