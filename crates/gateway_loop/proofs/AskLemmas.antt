@@ -17,7 +17,7 @@ use Rattle.gateway_loop.specs.Closing.{ClosesFrom}
 use Rattle.gateway_loop.specs.Names.{AsksFor, Leaves}
 use Rattle.gateway_loop.proofs.AccountLemmas.{admits_accounts, asks_accounts, begin_accounts, closes_accounts, done_alone, done_then, found_accounts, connects_accounts, end_accounts, goes_accounts, put_accounts, still_accounts, told_accounts}
 use Rattle.gateway_loop.proofs.GrowLemmas as grow
-use Rattle.gateway_loop.proofs.Places.{Put, put_back}
+use Rattle.gateway_loop.proofs.Places.{Put}
 use Rattle.gateway_loop.proofs.SumLemmas.{sum_map, sum_put}
 
 -- ---- what only grows
@@ -509,21 +509,7 @@ keeps_put framing left looked v old new ended i x y was job framed found put beg
 pub same_streams : (x y : AskingState) → y.tried ≡ x.tried → y.attempt.stream ≡ x.attempt.stream → HasStreamsOf (asked_for x) (asked_for y)
 same_streams x y tried stream = record { tried = tried; peer = ap (λ (o : Option StreamValue). peers_of (option_to_list o)) stream }
 
--- one of them was taken out, went on with its job, and was put back
-module _ (framing : Framing) (left : List StreamValue) (looked : List FoundValue) (v : LoopValue) (ended : List (AskingState × Option Outcome)) {s t u : Slab AskingState} {i key : ℕ} {x y : AskingState} where
-  pub goes_back : (rest : Beside) → Updates s t i None → t.vacant_key ≡ i → key ≡ t.vacant_key → Updates t u key (Some y) → slice_index_or s.slots i None ≡ Some x
-      → AsksOn (asked_for x) (asked_for y) → HasStreamsOf (asked_for x) (asked_for y) → (a : NetworkValue) → Goes a a (whole_loop framing v s.slots ended rest) (whole_loop framing v u.slots ended rest)
-  goes_back rest out next is back was on same = goes_put s.slots u.slots i framing v ended rest x y was (put_back s t u i key y out next is back) on same
-
-  pub over_back : {a b : NetworkValue} (rest : Beside) → Updates s t i None → t.vacant_key ≡ i → key ≡ t.vacant_key → Updates t u key (Some y) → slice_index_or s.slots i None ≡ Some x
-      → AsksOn (asked_for x) (asked_for y) → Connects a b (asked_for x) (asked_for y) → Goes a b (whole_loop framing v s.slots ended rest) (whole_loop framing v u.slots ended rest)
-  over_back {a} {b} rest out next is back was on connects = goes_over s.slots u.slots i framing v ended rest x y was (put_back s t u i key y out next is back) on connects
-
-  pub keeps_back : Updates s t i None → t.vacant_key ≡ i → key ≡ t.vacant_key → Updates t u key (Some y) → slice_index_or s.slots i None ≡ Some x
-      → y.job ≡ x.job → y.framing ≡ x.framing → y.addresses.found ≡ x.addresses.found → BeginsRequest (asked_for y) → HasUntouched y → Keeps framing left looked v s.slots ended → Keeps framing left looked v u.slots ended
-  keeps_back out next is back was job framed found begun untouched a = keeps_put framing left looked v s.slots u.slots ended i x y was job framed found (put_back s t u i key y out next is back) begun untouched a
-
--- .. and more was found for one
+-- .. where more was found for it
 pub finds_put : (framing : Framing) (left : List StreamValue) (looked : List FoundValue) (v : LoopValue) (old new : List (Option AskingState)) (ended : List (AskingState × Option Outcome)) (i : ℕ) (x y : AskingState)
     → slice_index_or old i None ≡ Some x → y.job ≡ x.job → y.framing ≡ x.framing → (one : FoundValue) (more : List SocketAddr) → (y ≡ x) ⊎ (x.job.job.address ≡ one.name) → Finds one.name more x y → Contains looked one → more ≡ take 32 one.addresses
     → Put old new i (Some y) → BeginsRequest (asked_for y) → HasUntouched y → Keeps framing left looked v old ended → Keeps framing left looked v new ended

@@ -32,12 +32,6 @@ some_stream s t e = cc
 pub no_stream : (s : StreamValue) → Some s ≡ None → ⊥
 no_stream s e = cc
 
-pub one_peer : (a b : SocketAddr) → Some a ≡ Some b → a ≡ b
-one_peer a b e = cc
-
-pub no_peer : (a : SocketAddr) → Some a ≡ None → ⊥
-no_peer a e = cc
-
 none_there : (b : ClientValue) → None ≡ Some b → ⊥
 none_there b e = cc
 
