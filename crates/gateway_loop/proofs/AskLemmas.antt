@@ -11,7 +11,7 @@ use Rattle.branch_asking.specs.Streams.{Connects, HasStreamsOf, left_by}
 use Rattle.loop_model.specs.Streams.{ShareValue, closed_stream, share_value}
 use Rattle.std.proofs.lemmas.List.Elements.{All-append, All-pop}
 use Rattle.std.specs.Prelude.{IfSome}
-use Rattle.loop_model.specs.Whole.{AreShared, IsSameIfThere, IsSameStream, count_shares, share_of}
+use Rattle.loop_model.specs.Whole.{AreShared, IsSameIfThere, IsSameStream, count_own, count_shares, share_of}
 use Rattle.gateway_loop.specs.Clients.{IsTold, LetsGo, TakesIn}
 use Rattle.gateway_loop.specs.Closing.{ClosesFrom}
 use Rattle.gateway_loop.specs.Names.{AsksFor, Leaves}
@@ -590,23 +590,21 @@ module _ (ended : List EndedValue) (left : List StreamValue) (x : AskingValue) (
   own_share : (s : StreamValue) → x.stream ≡ Some s → share_of last ≡ share_value x.job s.turns o ∷ []
   own_share s is = ap (λ (k : Option StreamValue). option_map_or (λ (t : StreamValue). share_value x.job t.turns o ∷ []) k []) is
 
-  no_share : x.stream ≡ None → share_of last ≡ []
-  no_share is = ap (λ (k : Option StreamValue). option_map_or (λ (t : StreamValue). share_value x.job t.turns o ∷ []) k []) is
-
-  shares_by : (p : ShareValue → Bool) (s : Option StreamValue) → x.stream ≡ s → IfSome s IsNew → count_shares p (leaves s) ≡ count_by p (share_of last)
-  shares_by p None is new = sym (ap (count_by p) (no_share is))
+  shares_by : (p : SocketAddr → ShareValue → Bool) (s : Option StreamValue) → x.stream ≡ s → IfSome s IsNew → count_shares p (leaves s) ≡ count_own p last
+  shares_by p None is new = sym (ap (λ (k : Option StreamValue). option_map_or (λ (t : StreamValue). count_by (p t.peer) (share_of last)) k 0) is)
   shares_by p (Some s) is new =
       let own = stream_value s.peer (s.before ++ share_of last) [] in
-      let one = sum_by-cons (λ (t : StreamValue). count_by p t.before) own [] in
-      let none : sum_by (λ (t : StreamValue). count_by p t.before) [] ≡ 0 = refl in
-      let its = ap (λ (l : List ShareValue). count_by p (l ++ share_of last)) new in
-      omega (arith, one, none, its)
+      let one = sum_by-cons (λ (t : StreamValue). count_by (p t.peer) t.before) own [] in
+      let none : sum_by (λ (t : StreamValue). count_by (p t.peer) t.before) [] ≡ 0 = refl in
+      let its = ap (λ (l : List ShareValue). count_by (p s.peer) (l ++ share_of last)) new in
+      let counted = ap (λ (k : Option StreamValue). option_map_or (λ (t : StreamValue). count_by (p t.peer) (share_of last)) k 0) is in
+      omega (arith, one, none, its, counted)
 
-  one_by : (s : Option StreamValue) → x.stream ≡ s → IfSome s IsNew → All (λ (t : StreamValue). length t.before ≤ 1) (leaves s)
-  one_by None is new = All-nil (λ (t : StreamValue). length t.before ≤ 1)
+  one_by : (s : Option StreamValue) → x.stream ≡ s → IfSome s IsNew → All (λ (t : StreamValue). length t.before ≡ 1) (leaves s)
+  one_by None is new = All-nil (λ (t : StreamValue). length t.before ≡ 1)
   one_by (Some s) is new =
       let count = ap (λ (l : List ShareValue). length (l ++ share_of last)) new ∙ ap (λ (l : List ShareValue). length l) (own_share s is) in
-      All-push (λ (t : StreamValue). length t.before ≤ 1) [] (stream_value s.peer (s.before ++ share_of last) []) (All-nil (λ (t : StreamValue). length t.before ≤ 1)) (omega (arith, count))
+      All-push (λ (t : StreamValue). length t.before ≡ 1) [] (stream_value s.peer (s.before ++ share_of last) []) (All-nil (λ (t : StreamValue). length t.before ≡ 1)) (omega (arith, count))
 
   still_by : (s : Option StreamValue) → All (λ (t : StreamValue). t.turns ≡ []) (leaves s)
   still_by None = All-nil (λ (t : StreamValue). t.turns ≡ [])
@@ -617,14 +615,14 @@ module _ (ended : List EndedValue) (left : List StreamValue) (x : AskingValue) (
       let own_new = (All-pop IsNew (streams_for x) x.tried x.stream refl new).1 in record {
         shares = λ p.
             let before = k.shares p in
-            let of_ended : EndedValue → ℕ = λ (e : EndedValue). count_by p (share_of e) in
+            let of_ended : EndedValue → ℕ = count_own p in
             let total = sum_by-append of_ended ended (last ∷ []) in
             let its = sum_by-cons of_ended last [] in
             let none : sum_by of_ended [] ≡ 0 = refl in
-            let more = sum_by-append (λ (s : StreamValue). count_by p s.before) left (left_by x o) in
+            let more = sum_by-append (λ (s : StreamValue). count_by (p s.peer) s.before) left (left_by x o) in
             let own = shares_by p x.stream refl own_new in
             omega (arith, before, total, its, none, more, own);
-        one = All-append (λ (s : StreamValue). length s.before ≤ 1) left (left_by x o) k.one (one_by x.stream refl own_new);
+        one = All-append (λ (s : StreamValue). length s.before ≡ 1) left (left_by x o) k.one (one_by x.stream refl own_new);
         still = All-append (λ (s : StreamValue). s.turns ≡ []) left (left_by x o) k.still (still_by x.stream);
       }
 

@@ -1,6 +1,7 @@
 -- A loop: its clients, and the exchanges with its backends.
-use Rattle.std.specs.Prelude.{◌≡◌, ⊤, ◌⊎◌, ℕ, ◌+◌, ◌≤◌, Bool, false, All, List, [], ◌∷◌, ◌++◌, count_by, length, map, slice_index_or, sum_by, Option, Some, None}
+use Rattle.std.specs.Prelude.{◌≡◌, ⊤, ◌⊎◌, ℕ, ◌+◌, Bool, false, All, List, [], ◌∷◌, ◌++◌, count_by, length, map, slice_index_or, sum_by, Option, Some, None}
 use Rattle.std.specs.Option.{option_map_or}
+use Rattle.std.specs.declared.net.socket_addr.SocketAddr.{SocketAddr}
 use Rattle.connect_codec.specs.declared.answer.Outcome.{Outcome}
 use Rattle.gateway_model.specs.Job.{JobValue}
 use Rattle.gateway_model.specs.Queue.{IsPrefixOf}
@@ -37,15 +38,19 @@ asked_at i asking = slice_index_or asking i None
 abbrev pub share_of : EndedValue → List ShareValue
 share_of e = option_map_or (λ (s : StreamValue). share_value e.asking.job s.turns e.outcome ∷ []) e.asking.stream []
 
--- how many shares with the property these streams have
-abbrev pub count_shares : (ShareValue → Bool) → List StreamValue → ℕ
-count_shares p streams = sum_by (λ (s : StreamValue). count_by p s.before) streams
+-- how many shares these streams have, each to such an address, with the property
+abbrev pub count_shares : (SocketAddr → ShareValue → Bool) → List StreamValue → ℕ
+count_shares p streams = sum_by (λ (s : StreamValue). count_by (p s.peer) s.before) streams
 
--- Each share of the streams that jobs have left is that of one job that has ended, and of no other. No stream has two, and none had a turn
--- since.
+-- .. and how many the job had that has ended
+abbrev pub count_own : (SocketAddr → ShareValue → Bool) → EndedValue → ℕ
+count_own p e = option_map_or (λ (s : StreamValue). count_by (p s.peer) (share_of e)) e.asking.stream 0
+
+-- The shares of the streams that jobs have left are those of the jobs that have ended, each of a stream to the address to which its job's
+-- led. Each stream has one, and none had a turn since.
 pub record AreShared (ended : List EndedValue) (left : List StreamValue) : Type 0 where
-  pub shares : (p : ShareValue → Bool) → count_shares p left ≡ sum_by (λ (e : EndedValue). count_by p (share_of e)) ended
-  pub one : All (λ (s : StreamValue). length s.before ≤ 1) left
+  pub shares : (p : SocketAddr → ShareValue → Bool) → count_shares p left ≡ sum_by (count_own p) ended
+  pub one : All (λ (s : StreamValue). length s.before ≡ 1) left
   pub still : All (λ (s : StreamValue). s.turns ≡ []) left
 
 -- the results that were handed in are those of the exchanges that ended, in order, and each ended fairly; what was written of each that is

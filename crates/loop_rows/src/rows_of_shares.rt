@@ -1,5 +1,5 @@
 //! The worked rows of the shares that jobs have of streams. The functions do nothing.
-ghost use Rattle.std.specs.Prelude.{◌≡◌, ◌∷◌, [], ℕ, List, Option, Some, None};
+ghost use Rattle.std.specs.Prelude.{◌≡◌, ◌∷◌, [], ℕ, Bool, true, false, List, Option, Some, None};
 ghost use Rattle.std.specs.declared.net.socket_addr.SocketAddr.{SocketAddr};
 ghost use Rattle.connect_codec.specs.declared.answer.Outcome.{Outcome};
 ghost use Rattle.gateway_model.specs.Job.{JobValue};
@@ -17,8 +17,8 @@ fn shares_of_streams()
     ensures no_stream { (j : JobValue) (o : Option Outcome) → AreShared (ended_value (asking j) o ∷ []) [] }
 {}
 
-/// No share is nobody's, lost, another job's, or told with another outcome; no stream has two, and nothing is done at
-/// one that was left.
+/// No share is nobody's, lost, another job's, told with another outcome, or of a stream to another address; no stream has
+/// two or none, and nothing is done at one that was left.
 fn other_shares()
     ensures nobodys { (a : SocketAddr) (j : JobValue) (turns : List Turn) (o : Option Outcome)
         → AreShared [] (stream_value a (share_value j turns o ∷ []) [] ∷ []) → ⊥ }
@@ -27,6 +27,9 @@ fn other_shares()
         → AreShared (ended a (job 0 1 2) [] turns o ∷ []) (stream_value a (share_value (job 0 1 3) turns o ∷ []) [] ∷ []) → ⊥ }
     ensures outcome { (a : SocketAddr) (j : JobValue) (turns : List Turn) (o : Outcome)
         → AreShared (ended a j [] turns None ∷ []) (stream_value a (share_value j turns (Some o) ∷ []) [] ∷ []) → ⊥ }
+    ensures elsewhere { (a b : SocketAddr) (is_first : SocketAddr → Bool) (j : JobValue) (turns : List Turn) (o : Option Outcome)
+        → is_first a ≡ true → is_first b ≡ false → AreShared (ended a j [] turns o ∷ []) (stream_value b (share_value j turns o ∷ []) [] ∷ []) → ⊥ }
+    ensures unused { (a : SocketAddr) → AreShared [] (stream_value a [] [] ∷ []) → ⊥ }
     ensures two { (a : SocketAddr) (i j : JobValue) (first last : List Turn) (o p : Option Outcome)
         → AreShared (ended a i [] first o ∷ ended a j [] last p ∷ []) (stream_value a (share_value i first o ∷ share_value j last p ∷ []) [] ∷ []) → ⊥ }
     ensures since { (a : SocketAddr) (j : JobValue) (turns : List Turn) (o : Option Outcome) (turn : Turn)
