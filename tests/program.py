@@ -18,6 +18,7 @@ import program_container
 import program_drains
 import program_ends
 import program_figures
+import program_kept
 import program_log
 import program_loops
 import program_names
@@ -32,7 +33,7 @@ from program_room import CASE_TIME, Room, Untried, Wrong
 MODULES = [
     program_admin, program_drains, program_figures, program_backends, program_servers, program_container, program_ends,
     program_serve, program_places, program_loops, program_passed, program_chunked, program_turns, program_names,
-    program_waits, program_log,
+    program_waits, program_log, program_kept,
 ]
 
 

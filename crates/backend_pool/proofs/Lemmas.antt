@@ -25,7 +25,7 @@ use Rattle.std.proofs.lemmas.List.{nil_from_length, take-append-drop}
 pub use Rattle.http_pieces.specs.ReplyReader.{ReplyReaderValue}
 use Rattle.http_pieces.specs.declared.framing.Framing.TheVariants as framing
 use Rattle.http_pieces.specs.declared.reply.HttpReply.{HttpReply}
-use Rattle.branch_exchange.specs.Exchange.{BeginsWithReply, ComesTo}
+use Rattle.branch_exchange.specs.Exchange.{BeginsWithReply, ComesTo, ExchangeValue}
 pub use Rattle.branch_exchange.specs.Exchange.{IsReading}
 use Rattle.branch_exchange.specs.declared.exchange_end.ExchangeEnd.TheVariants as ends
 use Rattle.branch_exchange.specs.Outcomes.{asked_of}
@@ -146,10 +146,10 @@ pub sends_more : (u v w : Option (List ℕ)) (all left : List ℕ) (n : ℕ) →
 sends_more u v w all left n s more = (s.0 ++ take n left, grind (arith, common_steps, Appends-trans), grind (arith, common_steps, take-append-drop))
 
 -- where a reply is told, what was read begins with it
-pub reply_begins : (left bytes : List ℕ) (reader : ReplyReaderValue) (end : ExchangeEnd) (reply : HttpReply)
-    → ComesTo framing.Fixed left reader bytes (Some end) → asked_of end ≡ asked.Reply reply → BeginsWithReply framing.Fixed bytes reply
-reply_begins left bytes reader (ends.Reply told) reply comes is =
+pub reply_begins : (x : ExchangeValue) (bytes : List ℕ) (end : ExchangeEnd) (reply : HttpReply)
+    → ComesTo framing.Fixed x bytes (Some end) → asked_of end ≡ asked.Reply reply → BeginsWithReply framing.Fixed bytes reply
+reply_begins x bytes (ends.Reply told) reply comes is =
     let same : told ≡ reply = cc in
     subst (λ (q : HttpReply). BeginsWithReply framing.Fixed bytes q) same comes.0
-reply_begins left bytes reader (ends.Lost loss) reply comes is = absurd (cc)
-reply_begins left bytes reader ends.NoMemory reply comes is = absurd (cc)
+reply_begins x bytes (ends.Lost loss) reply comes is = absurd (cc)
+reply_begins x bytes ends.NoMemory reply comes is = absurd (cc)

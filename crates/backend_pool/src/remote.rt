@@ -52,6 +52,7 @@ impl Backend for RemoteBackend {
             remaining: job.remaining(),
             request_id: job.request_id(),
             body: job.body(),
+            keeps: false,
         };
         let Ok(request) = passing_request(self.alloc, &ask, &job.passed()) else {
             return Asked::NoMemory;

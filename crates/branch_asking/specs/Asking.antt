@@ -4,16 +4,19 @@ use Rattle.std.specs.Option.{option_map_or}
 use Rattle.std.specs.declared.net.socket_addr.SocketAddr.{SocketAddr}
 use Rattle.http_pieces.specs.declared.framing.Framing.{Framing}
 use Rattle.http_pieces.specs.declared.reply.HttpReply.{HttpReply}
-use Rattle.branch_exchange.specs.Exchange.{BeginsWithReply, ExchangeValue, HasNoReply, IsReading}
+use Rattle.branch_exchange.specs.Exchange.{BeginsWithReply, ExchangeValue, HasNoReply, IsReading, IsReplyAlone}
 use Rattle.branch_exchange.specs.declared.exchange_end.ExchangeEnd.{ExchangeEnd}
 use Rattle.branch_exchange.specs.declared.exchange_end.ExchangeEnd.TheVariants as ends
 use Rattle.branch_exchange.specs.declared.exchange_end.Loss.{Loss}
 use Rattle.gateway_model.specs.Queue.{IsPrefixOf}
 use Rattle.gateway_theory.specs.Task.{HandedJob}
-use Rattle.loop_model.specs.Streams.{ShareValue, StreamValue, stream_value, turns_of}
+use Rattle.loop_model.specs.Requests.{request_of}
+use Rattle.loop_model.specs.Shares.{IsStreamFor}
+use Rattle.loop_model.specs.Streams.{IsNew, ShareValue, StreamValue, stream_value, turns_of}
 use Rattle.loop_model.specs.Whole.{IsSameStream}
-use Rattle.loop_model.specs.Asking.{AskingValue, IsUntouched, peers_of, request_of, streams_for}
-use Rattle.wires.specs.Turns.{Turn, ended_of, given_of, got_of}
+use Rattle.loop_model.specs.Asking.{AskingValue, IsUntouched, new_for, peers_of}
+use Rattle.loop_model.specs.declared.manner.Manner.{Manner}
+use Rattle.wires.specs.Turns.{BeginsQuietly, Quiet, Turn, ended_of, given_of, got_of}
 use Rattle.wires.specs.Wires.{is_to_read}
 use Rattle.wires.specs.declared.ready.Ready.{Ready}
 use Rattle.branch_asking.specs.Addresses.{AddressesValue, AreOf, once_found}
@@ -39,6 +42,14 @@ backend_value stream reads writes watched reported =
 -- the same stream, with more turns
 abbrev pub with_turns : List Turn → StreamValue → StreamValue
 with_turns turns s = stream_value s.peer s.before (s.turns ++ turns)
+
+-- .. of which none took a byte
+abbrev pub HasLookedAt : StreamValue → StreamValue → Type 0
+HasLookedAt s t = (turns : List Turn) × (t ≡ with_turns turns s) × (got_of turns ≡ [])
+
+-- since the last share it was read alone, and nothing was there
+abbrev pub IsStill : StreamValue → Type 0
+IsStill s = All (λ (turn : Turn). turn ≡ Quiet) s.turns
 
 -- of all turns of a stream those behind these shares
 abbrev pub own_turns : List ShareValue → List Turn → List Turn
@@ -92,11 +103,13 @@ pub record Asks (framing : Framing) (request : List ℕ) (x : AttemptValue) : Ty
   pub reads : IsReading framing x.exchange.replies (given_by x.stream)
   pub goes_on : ended_by x.stream ≡ false
 
--- It has ended so: with a reply only if the request was written whole, and what was read begins with that; and as lost only if the request
--- was not, or what was read begins with none. In any case the first bytes of the request were written, and no others.
+-- It has ended so: with a reply only if the request was written whole, and what was read begins with that, and is no more where that is said;
+-- and as lost only if the request was not, or what was read begins with none. In any case the first bytes of the request were written, and no
+-- others.
 pub record HasEnded (framing : Framing) (request : List ℕ) (end : ExchangeEnd) (x : AttemptValue) : Type 0 where
   pub prefix : IsPrefixOf (got_by x.stream) request
   pub whole : (reply : HttpReply) → end ≡ ends.Reply reply → (got_by x.stream ≡ request) × BeginsWithReply framing (given_by x.stream) reply
+  pub alone : (reply : HttpReply) → end ≡ ends.Reply reply → x.exchange.alone ≡ true → IsReplyAlone framing (given_by x.stream) reply
   pub unanswered : (loss : Loss) → end ≡ ends.Lost loss → got_by x.stream ≡ request → HasNoReply framing (given_by x.stream)
 
 -- the report became known of its stream, if it has one
@@ -114,9 +127,9 @@ watched_attempt watched x = record x { watched = watched }
 abbrev pub timed_attempt : Option ℕ → AttemptValue → AttemptValue
 timed_attempt until x = record x { until = until }
 
--- nothing was written or read
+-- nothing was written or read, and no job went over its stream before
 abbrev pub IsUntouchedAttempt : AttemptValue → Type 0
-IsUntouchedAttempt x = (got_by x.stream ≡ []) × (given_by x.stream ≡ [])
+IsUntouchedAttempt x = (got_by x.stream ≡ []) × (given_by x.stream ≡ []) × All IsNew (option_to_list x.stream)
 
 -- more may have been done at its stream, and reported of it
 abbrev pub GrowsTo : Option StreamValue → Option StreamValue → Type 0
@@ -137,20 +150,31 @@ StepsTo framing request (Ended end) x = HasEnded framing request end x
 abbrev pub Steps : AttemptValue → Step → AttemptValue → Type 0
 Steps x step y = (framing : Framing) (request : List ℕ) → Asks framing request x → StepsTo framing request step y
 
+-- It had no stream, and goes over this one from now on, of which nothing was to be read as it took some first bytes.
+pub record Reuses (s : StreamValue) (x y : AttemptValue) : Type 0 where
+  pub alone : x.stream ≡ None
+  pub now : StreamValue
+  pub stream : y.stream ≡ Some now
+  pub peer : now.peer ≡ s.peer
+  pub before : now.before ≡ s.before
+  pub quiet : BeginsQuietly now.turns
+  pub connected : y.connected ≡ true
+  pub asks : (framing : Framing) (request : List ℕ) → Asks framing request x → Asks framing request y
+
 -- ---- the job that it asks for
 
--- how its reply may be framed, the job, its addresses, its attempt, how it ended, if it did, and the streams that were given up before
+-- how it is asked, the job, its addresses, its attempt, how it ended, if it did, and the streams that were given up before
 pub record AskingState : Type 0 where
-  pub framing : Framing
+  pub manner : Manner
   pub job : HandedJob
   pub addresses : AddressesValue
   pub attempt : AttemptValue
   pub end : Option ExchangeEnd
   pub tried : List StreamValue
 
-abbrev pub asking_state : Framing → HandedJob → AddressesValue → AttemptValue → Option ExchangeEnd → List (BackendValue × Bool) → AskingState
-asking_state framing job addresses attempt end tried = record {
-  framing = framing;
+abbrev pub asking_state : Manner → HandedJob → AddressesValue → AttemptValue → Option ExchangeEnd → List (BackendValue × Bool) → AskingState
+asking_state manner job addresses attempt end tried = record {
+  manner = manner;
   job = job;
   addresses = addresses;
   attempt = attempt;
@@ -184,11 +208,12 @@ abbrev pub Finds : List ℕ → List SocketAddr → AskingState → AskingState 
 Finds name more x y =
     (x.job.job.address ≡ name → y ≡ record x { addresses = once_found more x.addresses }) × ((x.job.job.address ≡ name → ⊥) → y ≡ x)
 
--- no job went over its streams before; nothing was read from those that were given up, or written to them; its streams lead to the addresses
--- of its job, and so will others; and it asks for its job, or ended so
+-- no job went over those that were given up, and nothing was read from them, or written to them; its stream, if it has one, is one for the
+-- address of its job; its new streams lead to the addresses of its job, and so will others; and it asks for its job, or ended so
 pub record HasBegun (x : AskingState) : Type 0 where
-  pub new : All (λ (s : StreamValue). s.before ≡ []) (streams_for (asked_for x))
-  pub given : AreOf x.job.job.address (peers_of (streams_for (asked_for x))) x.addresses
+  pub new : All IsNew x.tried
+  pub goes_over : All (IsStreamFor x.manner x.job.job.address) (option_to_list x.attempt.stream)
+  pub given : AreOf x.job.job.address (peers_of (new_for (asked_for x))) x.addresses
   pub untouched : All IsUntouched x.tried
-  pub asks : x.end ≡ None → Asks x.framing (request_of x.job.job) x.attempt
-  pub ended : (end : ExchangeEnd) → x.end ≡ Some end → HasEnded x.framing (request_of x.job.job) end x.attempt
+  pub asks : x.end ≡ None → Asks x.manner.framing (request_of x.manner x.job.job) x.attempt
+  pub ended : (end : ExchangeEnd) → x.end ≡ Some end → HasEnded x.manner.framing (request_of x.manner x.job.job) end x.attempt

@@ -1,6 +1,8 @@
 -- Whether nothing is left to be done for a job that is asked for.
 use Rattle.std.specs.Prelude.{Bool, true, false, ◌&&◌, ◌||◌, not, nat_le, if◌then◌else◌, List, [], ◌∷◌, ℕ, length, is_some, Option, Some, None}
-use Rattle.loop_model.specs.Asking.{AskingValue, got_for, request_of}
+use Rattle.loop_model.specs.Asking.{AskingValue, got_for}
+use Rattle.loop_model.specs.Requests.{request_of}
+use Rattle.loop_model.specs.declared.manner.Manner.{Manner}
 use Rattle.branch_asking.specs.Asking.{AskingState, AttemptValue, asked_for}
 
 abbrev pub is_nil : List ℕ → Bool
@@ -22,9 +24,9 @@ abbrev pub rests_over : AttemptValue → Bool
 rests_over x = rests_by (is_nil x.exchange.left) x
 
 -- as many bytes were written as its request has
-abbrev pub is_sent : AskingValue → Bool
-is_sent x = nat_le (length (request_of x.job)) (length (got_for x))
+abbrev pub is_sent : Manner → AskingValue → Bool
+is_sent manner x = nat_le (length (request_of manner x.job)) (length (got_for x))
 
 -- it has not ended, and its attempt rests
 abbrev pub rests_asked : AskingState → Bool
-rests_asked x = not (is_some x.end) && rests_by (is_sent (asked_for x)) x.attempt
+rests_asked x = not (is_some x.end) && rests_by (is_sent x.manner (asked_for x)) x.attempt

@@ -1,15 +1,17 @@
-ghost use Rattle.std.specs.Prelude.{◌≡◌, ◌↔◌, ◌⊎◌, [], None, Some, false, true, is_some, IfOk, IfSome, IsFalse, MatchOption, map, option_and_then, option_to_list};
+ghost use Rattle.std.specs.Prelude.{◌≡◌, ◌↔◌, ◌⊎◌, [], All, None, Some, false, true, is_some, IfOk, IfSome, IsFalse, IsTrue, MatchOption, map, option_and_then, option_to_list};
 ghost use Rattle.std.specs.Borrow.{sem};
 ghost use Rattle.std.specs.Option.{option_map_or};
 ghost use Rattle.branch_causes.specs.Causes.{cause_of_end, status_of_end};
 ghost use Rattle.branch_causes.specs.declared.cause.Cause.TheVariants.{NotWanted};
 ghost use Rattle.branch_exchange.specs.Outcomes.{asked_of, outcome_of_asked};
 ghost use Rattle.branch_asking.specs.Addresses.{HasParsed, next_of};
-ghost use Rattle.branch_asking.specs.Streams.{Connects, HasStreamsOf, left_by};
-ghost use Rattle.branch_asking.specs.Asking.{Finds, NotesStream, asked_for, got_by, noted_attempt, timed_attempt, until_of, watched_attempt};
+ghost use Rattle.branch_asking.specs.Streams.{Connects, GoesOverAgain, HasStreamsOf, IsReadyFor, left_by};
+ghost use Rattle.branch_asking.specs.Asking.{Finds, HasLookedAt, NotesStream, asked_for, got_by, noted_attempt, timed_attempt, until_of, watched_attempt};
 ghost use Rattle.branch_asking.specs.Rests.{rests_asked};
-ghost use Rattle.loop_model.specs.Asking.{BeginsRequest, IsFair, ended_value, request_of};
-ghost use Rattle.loop_model.specs.Whole.{AsksOn};
+ghost use Rattle.loop_model.specs.Asking.{BeginsRequest, IsFair, ended_value};
+ghost use Rattle.loop_model.specs.Requests.{request_of};
+ghost use Rattle.loop_model.specs.Shares.{IsWhole};
+ghost use Rattle.loop_model.specs.Whole.{AsksOn, share_of};
 
 use crate::addresses::Addresses;
 use crate::attempt::{Attempt, Step};
@@ -17,11 +19,12 @@ use crate::backend::Backend;
 use crate::errand::Errand;
 use crate::network::Network;
 use branch_causes::{Cause, cause_of_end, status_of_end};
-use branch_exchange::{ExchangeEnd, Loss, outcome_of};
+use branch_exchange::{Asked, ExchangeEnd, Loss, outcome_of};
 use connect_codec::{BranchAsk, Outcome, passing_request};
 use gateway_core::Job;
-use http_pieces::{Bytes, Framing};
+use http_pieces::Bytes;
 use http_server::Log;
+use loop_model::Manner;
 use std::alloc::{AllocError, Global};
 use std::collections::VecDeque;
 use std::io::ErrorKind;
@@ -33,8 +36,8 @@ use wires::{Ready, Wire};
 /// A job that is asked for.
 #[derive(Drop)]
 pub struct Asking<W: Wire> {
-    // for proofs: how its reply may be framed
-    framing: Framing,
+    // for proofs: how it is asked
+    manner: Manner,
     job: Job,
     addresses: Addresses,
     attempt: Attempt<W>,
@@ -50,9 +53,9 @@ impl<W: Wire> Model for Asking<W> {
 
     ghost Value = { AskingState };
 
-    ghost view = { λ a. asking_state a.framing a.job a.addresses a.attempt a.end a.tried.items };
+    ghost view = { λ a. asking_state a.manner a.job a.addresses a.attempt a.end a.tried.items };
 
-    ghost invariant = { λ a. HasBegun (asking_state a.framing a.job a.addresses a.attempt a.end a.tried.items) };
+    ghost invariant = { λ a. HasBegun (asking_state a.manner a.job a.addresses a.attempt a.end a.tried.items) };
 }
 
 /// What a step of a job that is asked for came to.
@@ -68,27 +71,35 @@ pub enum Progress {
     Ended,
 }
 
+/// What a job that was asked for came to.
+#[derive(Drop)]
+pub struct Concluded {
+    /// The outcome that is to be recorded; None for want of memory.
+    pub outcome: Option<Outcome>,
+    /// Whether that is of a whole reply, nothing was read behind it, and its connection stays.
+    pub is_whole: bool,
+}
+
 impl<W: Wire> Asking<W> {
     ghost use Rattle.branch_asking.specs.Errands.{LendsErrand};
 
-    /// The job, before anything was done for it, whose reply may be framed so. One for whose request there is no memory
-    /// is over.
-    pub fn new(alloc: Global, framing: Framing, job: Job, errand: Errand) -> Asking<W>
-        ensures framing { result.framing ≡ framing }
+    /// The job, before anything was done for it, which is asked so. One for whose request there is no memory is over.
+    pub fn new(alloc: Global, manner: Manner, job: Job, errand: Errand) -> Asking<W>
+        ensures manner { result.manner ≡ manner }
         ensures job { result.job ≡ job }
         ensures found { result.addresses.found ≡ [] }
         ensures fresh { (result.tried ≡ []) × (result.attempt.stream ≡ None) }
         ensures over { IfSome result.end (λ end. end ≡ ExchangeEnd.NoMemory) }
     {
-        let (request, end) = match request_of(alloc, &job) {
+        let (request, end) = match request_of(alloc, manner, &job) {
             Ok(request) => (request, None),
             Err(_) => (Bytes::new(alloc), Some(ExchangeEnd::NoMemory)),
         };
         Asking {
-            framing,
+            manner,
             job,
             addresses: Addresses::new(alloc),
-            attempt: Attempt::new(alloc, framing, request),
+            attempt: Attempt::new(alloc, manner.framing, request),
             end,
             errand,
             tried: Log::new(),
@@ -169,10 +180,10 @@ impl<W: Wire> Asking<W> {
         self.attempt.watch(net, token)
     }
 
-    /// What was written for it begins its request, and nothing was written to a stream that was given up, or to one that
-    /// has not taken a byte. It does nothing.
+    /// What was written for it begins its request, and nothing was written to a stream that was given up, or to one
+    /// that has not taken a byte. It does nothing.
     pub fn begun_law(&self)
-        ensures begun { BeginsRequest (asked_for self.now) }
+        ensures begun { BeginsRequest self.now.manner (asked_for self.now) }
         ensures untouched { self.now.attempt.connected ≡ false → got_by self.now.attempt.stream ≡ [] }
     {
         self.attempt.unsent_law();
@@ -218,7 +229,7 @@ impl<W: Wire> Asking<W> {
 
     /// Whether its job's address is no name. It is to be tried then.
     pub fn has_address(&mut self) -> bool
-        ensures framing { self.new.framing ≡ self.old.framing }
+        ensures manner { self.new.manner ≡ self.old.manner }
         ensures job { self.new.job ≡ self.old.job }
         ensures found { self.new.addresses.found ≡ self.old.addresses.found }
         ensures end { self.new.end ≡ self.old.end }
@@ -231,7 +242,7 @@ impl<W: Wire> Asking<W> {
 
     /// These addresses were found for the name. They are to be tried, if it is that of its job.
     pub fn find(&mut self, name: &str, found: VecDeque<SocketAddr>)
-        ensures framing { self.new.framing ≡ self.old.framing }
+        ensures manner { self.new.manner ≡ self.old.manner }
         ensures job { self.new.job ≡ self.old.job }
         ensures own { (self.new ≡ self.old) ⊎ (self.old.job.job.address ≡ name.now) }
         ensures end { self.new.end ≡ self.old.end }
@@ -246,7 +257,7 @@ impl<W: Wire> Asking<W> {
 
     /// Writes what can be written of the request, and reads what can be read of the reply.
     pub fn step(&mut self) -> Progress
-        ensures framing { self.new.framing ≡ self.old.framing }
+        ensures manner { self.new.manner ≡ self.old.manner }
         ensures job { self.new.job ≡ self.old.job }
         ensures found { self.new.addresses.found ≡ self.old.addresses.found }
         ensures on { AsksOn (asked_for self.old) (asked_for self.new) }
@@ -271,7 +282,7 @@ impl<W: Wire> Asking<W> {
 
     /// It is over. One that had not ended is lost by this, whatever was read; None for want of memory.
     pub fn lose(&mut self, loss: Option<Loss>)
-        ensures framing { self.new.framing ≡ self.old.framing }
+        ensures manner { self.new.manner ≡ self.old.manner }
         ensures job { self.new.job ≡ self.old.job }
         ensures found { self.new.addresses.found ≡ self.old.addresses.found }
         ensures on { AsksOn (asked_for self.old) (asked_for self.new) }
@@ -285,29 +296,45 @@ impl<W: Wire> Asking<W> {
         }
     }
 
-    /// The outcome that is to be recorded; None for want of memory. One that has not ended is lost.
-    pub fn conclude(&mut self, alloc: Global) -> Option<Outcome>
-        ensures framing { self.new.framing ≡ self.old.framing }
+    /// What is to be recorded of it. One that has not ended is lost.
+    pub fn conclude(&mut self, alloc: Global) -> Concluded
+        ensures manner { self.new.manner ≡ self.old.manner }
         ensures job { self.new.job ≡ self.old.job }
         ensures found { self.new.addresses.found ≡ self.old.addresses.found }
         ensures on { AsksOn (asked_for self.old) (asked_for self.new) }
         ensures streams { HasStreamsOf (asked_for self.old) (asked_for self.new) }
-        ensures fair { IsFair self.new.framing (ended_value (asked_for self.new) result) }
+        ensures fair { IsFair self.new.manner (ended_value (asked_for self.new) result.outcome) }
+        ensures whole { IsTrue result.is_whole → All (IsWhole self.new.manner) (share_of (ended_value (asked_for self.new) result.outcome)) }
         ensures tells { (end : ExchangeEnd) → self.old.end ≡ Some end
-            → IfSome result (λ outcome. outcome_of_asked (asked_of end) ≡ Some outcome) }
+            → IfSome result.outcome (λ outcome. outcome_of_asked (asked_of end) ≡ Some outcome) }
     {
+        let is_alone = self.attempt.is_alone();
         match mem::replace(&mut self.end, Some(ExchangeEnd::NoMemory)) {
-            Some(end) => outcome_of(alloc, end.asked()),
-            None => outcome_of(alloc, branch_exchange::Asked::Lost),
+            Some(ExchangeEnd::Reply(reply)) => {
+                let stays = is_alone && !reply.closes;
+                let outcome = outcome_of(alloc, Asked::Reply(reply));
+                Concluded {
+                    is_whole: stays && outcome.is_some(),
+                    outcome,
+                }
+            }
+            Some(end) => Concluded {
+                outcome: outcome_of(alloc, end.asked()),
+                is_whole: false,
+            },
+            None => Concluded {
+                outcome: outcome_of(alloc, Asked::Lost),
+                is_whole: false,
+            },
         }
     }
 }
 
 impl<W: Wire + Drop> Asking<W> {
-    /// It goes over a stream to the next of its addresses from now on; unless it ended, or its stream took a byte.
-    /// False where there is no other address.
-    pub fn connect<N: Network<W>>(&mut self, net: &mut N) -> bool
-        ensures framing { self.new.framing ≡ self.old.framing }
+    /// It goes over a stream to the next of its addresses from that moment on; unless it ended, or its stream took a
+    /// byte. False where there is no other address.
+    pub fn connect<N: Network<W>>(&mut self, net: &mut N, moment: u64) -> bool
+        ensures manner { self.new.manner ≡ self.old.manner }
         ensures job { self.new.job ≡ self.old.job }
         ensures found { self.new.addresses.found ≡ self.old.addresses.found }
         ensures on { AsksOn (asked_for self.old) (asked_for self.new) }
@@ -321,7 +348,13 @@ impl<W: Wire + Drop> Asking<W> {
             return false;
         };
         self.errand.has_new_stream();
-        let stream = Backend::connect(net, address, self.attempt.left());
+        // further requests may go over one that is kept
+        let length = if self.manner.keeps {
+            usize::MAX
+        } else {
+            self.attempt.left()
+        };
+        let stream = Backend::connect(net, address, length, moment);
         if let Some(before) = self.attempt.connect(stream) {
             self.tried = self.tried.and(&before, &true);
             net.close(before.into_wire());
@@ -329,7 +362,29 @@ impl<W: Wire + Drop> Asking<W> {
         true
     }
 
-    /// The job, what was noted of it, and its stream, if it has one, of which the job's share has ended with this outcome.
+    /// It goes over this stream from now on, over which jobs of its address went before; if it has none yet, nothing is
+    /// there to be read, and the stream takes some of the request at once. Else the stream is given back.
+    pub fn reuse(&mut self, stream: Backend<W>) -> Option<Backend<W>>
+        requires { IsReadyFor self.old.manner self.old.job.job.address stream.stream }
+        ensures manner { self.new.manner ≡ self.old.manner }
+        ensures job { self.new.job ≡ self.old.job }
+        ensures found { self.new.addresses.found ≡ self.old.addresses.found }
+        ensures on { AsksOn (asked_for self.old) (asked_for self.new) }
+        ensures goes { result ≡ None → GoesOverAgain stream.stream (asked_for self.old) (asked_for self.new) }
+        ensures back { IfSome result (λ back. (self.new ≡ self.old) × HasLookedAt stream.stream back.stream) }
+    {
+        if self.end.is_some() {
+            return Some(stream);
+        }
+        let back = self.attempt.reuse(stream);
+        if back.is_none() {
+            self.errand.has_new_stream();
+        }
+        back
+    }
+
+    /// The job, what was noted of it, and its stream, if it has one, of which the job's share has ended with this
+    /// outcome.
     pub fn into_parts(self, outcome: &Option<Outcome>) -> (Job, Errand, Option<Backend<W>>)
         ensures job { result.0 ≡ self.job }
         ensures stream { map (λ b. b.stream) (option_to_list result.2) ≡ left_by (asked_for self) outcome.now }
@@ -343,8 +398,8 @@ impl<W: Wire + Drop> Asking<W> {
 }
 
 /// The request that asks for the job.
-fn request_of(alloc: Global, job: &Job) -> Result<Bytes, AllocError>
-    ensures { IfOk result (λ bytes. bytes ≡ request_of job.now.job) }
+fn request_of(alloc: Global, manner: Manner, job: &Job) -> Result<Bytes, AllocError>
+    ensures { IfOk result (λ bytes. bytes ≡ request_of manner job.now.job) }
 {
     let ask = BranchAsk {
         address: job.address(),
@@ -352,6 +407,7 @@ fn request_of(alloc: Global, job: &Job) -> Result<Bytes, AllocError>
         remaining: job.remaining(),
         request_id: job.request_id(),
         body: job.body(),
+        keeps: manner.keeps,
     };
     passing_request(alloc, &ask, &job.passed())
 }

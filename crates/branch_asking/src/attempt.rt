@@ -1,6 +1,7 @@
 ghost use Rattle.std.specs.Prelude.{◌≡◌, [], None, Some, IfSome, IsFalse, false, is_some, option_map};
 ghost use Rattle.loop_model.specs.Asking.{IsUntouched};
-ghost use Rattle.branch_asking.specs.Asking.{Asks, HasGrown, IsUntouchedAttempt, Steps, attempt_value, got_by, noted_attempt, until_of};
+ghost use Rattle.loop_model.specs.Streams.{IsNew};
+ghost use Rattle.branch_asking.specs.Asking.{Asks, HasGrown, HasLookedAt, IsStill, IsUntouchedAttempt, Reuses, Steps, attempt_value, got_by, noted_attempt, until_of};
 ghost use Rattle.branch_asking.specs.Rests.{rests_over};
 
 use crate::backend::Backend;
@@ -68,13 +69,14 @@ impl<W: Wire> Attempt<W> {
         }
     }
 
-    /// Watches its stream by that token. False where it has none, or can't.
+    /// Watches its stream by that token, unless it is watched so. False where it has none, or can't.
     pub(crate) fn watch<N: Network<W>>(&mut self, net: &mut N, token: usize) -> bool
         ensures same { self.new ≡ record self.old { watched = self.new.watched } }
         ensures net { N.value net.new ≡ N.value net.old }
     {
         let writes = !self.exchange.is_sent();
         match &mut self.stream {
+            Some(stream) if stream.is_watched_by(token, writes) => true,
             Some(stream) => stream.watch(net, token, writes),
             None => false,
         }
@@ -128,6 +130,13 @@ impl<W: Wire> Attempt<W> {
         ensures untouched { self.now.connected ≡ false → got_by self.now.stream ≡ [] }
     {
         let _ = &self.stream;
+    }
+
+    /// Whether its reply is whole, and nothing was read behind it.
+    pub(crate) fn is_alone(&self) -> bool
+        ensures { result ≡ self.now.exchange.alone }
+    {
+        self.exchange.is_alone()
     }
 
     /// By what token its stream is watched, and whether for room to write too.
@@ -256,10 +265,11 @@ impl<W: Wire + Drop> Attempt<W> {
         self.stream
     }
 
-    /// It goes over this stream from now on, of which nothing was read or written. Answers the one before, if there
+    /// It goes over this new stream from now on, of which nothing was read or written. Answers the one before, if there
     /// was one.
     pub(crate) fn connect(&mut self, stream: Backend<W>) -> Option<Backend<W>>
-        requires { IsUntouched stream.stream }
+        requires untouched { IsUntouched stream.stream }
+        requires new { IsNew stream.stream }
         ensures fresh { self.new ≡ attempt_value self.old.exchange (Some stream) false None }
         ensures before { option_map (λ b. b.stream) result ≡ self.old.stream }
         ensures untouched { result ≡ None → IsUntouchedAttempt self.old }
@@ -267,5 +277,30 @@ impl<W: Wire + Drop> Attempt<W> {
         self.is_connected = false;
         self.until = None;
         mem::replace(&mut self.stream, Some(stream))
+    }
+
+    /// It goes over this stream from now on, over which jobs went before, if it has none yet: if a read of that finds
+    /// nothing there, and it takes some of the request at once. Else the stream is given back.
+    pub(crate) fn reuse(&mut self, stream: Backend<W>) -> Option<Backend<W>>
+        requires still { IsStill stream.stream }
+        ensures kept { result ≡ None → Reuses stream.stream self.old self.new }
+        ensures back { IfSome result (λ back. (self.new ≡ self.old) × HasLookedAt stream.stream back.stream) }
+    {
+        if self.stream.is_some() {
+            return Some(stream);
+        }
+        let mut stream = stream;
+        if !stream.is_quiet() {
+            return Some(stream);
+        }
+        match stream.write(self.exchange.request()) {
+            Sent::Bytes(first) => {
+                self.exchange.sent(first);
+                self.is_connected = true;
+                self.stream = Some(stream);
+                None
+            }
+            Sent::Nothing | Sent::Interrupted | Sent::Failed(_) => Some(stream),
+        }
     }
 }

@@ -1,7 +1,8 @@
-ghost use Rattle.std.specs.Prelude.{◌≡◌, ◌||◌, ◌++◌, ◌∷◌, [], Some};
-ghost use Rattle.branch_asking.specs.Asking.{backend_value, with_turns};
+ghost use Rattle.std.specs.Prelude.{◌≡◌, ◌||◌, ◌++◌, ◌∷◌, [], Some, IsTrue, false};
+ghost use Rattle.branch_asking.specs.Asking.{HasLookedAt, backend_value, with_turns};
 ghost use Rattle.loop_model.specs.Streams.{closed_stream, closed_turns, share_value, stream_value};
-ghost use Rattle.wires.specs.Turns.{BringsWithin, TakesWithin, turns_of_read, turns_of_write};
+ghost use Rattle.wires.specs.Turns.{BringsWithin, Quiet, TakesWithin, turns_of_read, turns_of_write};
+ghost use Rattle.wires.specs.declared.got.Got.TheVariants as got;
 ghost use Rattle.wires.specs.Wires.{is_to_read};
 
 use crate::network::Network;
@@ -18,6 +19,9 @@ use wires::{Got, Outbox, PIECE, Ready, Sent, Wire};
 pub struct Backend<W: Wire> {
     wire: W,
     peer: SocketAddr,
+    // the moment at which it was made, and how many jobs went over it
+    opened: u64,
+    uses: u32,
     // for proofs: the shares that jobs had of it
     before: Shares,
 }
@@ -36,11 +40,12 @@ impl<W: Wire> Model for Backend<W> {
 }
 
 impl<W: Wire> Backend<W> {
-    /// Begins to connect to the address, over which a request of so many bytes will be written.
+    /// Begins to connect to the address at that moment. So many bytes at most will be written over it.
     pub(crate) fn connect<N: Network<W>>(
         net: &mut N,
         address: SocketAddr,
         length: usize,
+        moment: u64,
     ) -> Backend<W>
         ensures fresh { result.stream ≡ stream_value address [] [] }
         ensures made { N.value net.new ≡ record (N.value net.old) { made = (N.value net.old).made ++ address ∷ [] } }
@@ -48,6 +53,8 @@ impl<W: Wire> Backend<W> {
         Backend {
             wire: net.connect(address, length),
             peer: address,
+            opened: moment,
+            uses: 0,
             before: Shares::new(),
         }
     }
@@ -61,14 +68,14 @@ impl<W: Wire> Backend<W> {
     }
 
     /// Something became possible.
-    pub(crate) fn report(&mut self, ready: Ready)
+    pub fn report(&mut self, ready: Ready)
         ensures { self.new ≡ backend_value self.old.stream (self.old.reads || is_to_read ready) (self.old.writes || ready.writable) self.old.watched (self.old.reported ++ ready ∷ []) }
     {
         self.wire.report(ready);
     }
 
     /// Whether a read may bring something.
-    pub(crate) fn may_read(&self) -> bool
+    pub fn may_read(&self) -> bool
         ensures { result ≡ self.now.reads }
     {
         self.wire.may_read()
@@ -82,10 +89,16 @@ impl<W: Wire> Backend<W> {
     }
 
     /// By what token it is watched, and whether for room to write too.
-    pub(crate) fn watched(&self) -> Option<(usize, bool)>
+    pub fn watched(&self) -> Option<(usize, bool)>
         ensures { result ≡ self.now.watched }
     {
         self.wire.watched()
+    }
+
+    /// Whether it is watched by that token, and for room to write too, if it is to be.
+    pub(crate) fn is_watched_by(&self, token: usize, writes: bool) -> bool {
+        self.watched()
+            .is_some_and(|(by, for_writes)| by == token && (for_writes || !writes))
     }
 
     /// The job's share of it has ended with this outcome.
@@ -93,11 +106,22 @@ impl<W: Wire> Backend<W> {
         ensures { self.new.stream ≡ stream_value self.old.stream.peer
             (self.old.stream.before ++ share_value job.now.job self.old.stream.turns outcome.now ∷ []) [] }
     {
+        self.uses = self.uses.saturating_add(1);
         self.before = self.before.and(&Share {
             stream: &*self,
             job,
             outcome,
         });
+    }
+
+    /// The moment at which it was made.
+    pub fn opened(&self) -> u64 {
+        self.opened
+    }
+
+    /// How many jobs went over it.
+    pub fn uses(&self) -> u32 {
+        self.uses
     }
 
     /// Its wire, which may be closed.
@@ -107,6 +131,8 @@ impl<W: Wire> Backend<W> {
         let Backend {
             wire,
             peer: _,
+            opened: _,
+            uses: _,
             before: _,
         } = self;
         wire
@@ -117,8 +143,21 @@ impl<W: Wire> Backend<W> {
         ensures turns { self.new.stream ≡ with_turns (turns_of_read piece.new result) self.old.stream }
         ensures within { BringsWithin piece.new result }
         ensures reported { self.new.reported ≡ self.old.reported }
+        ensures unread { result ≡ got.Nothing → self.new.reads ≡ false }
+        ensures watched { self.new.watched ≡ self.old.watched }
     {
         self.wire.read(piece)
+    }
+
+    /// Reads once. Whether nothing was there: no byte, no end, and no failure.
+    pub fn is_quiet(&mut self) -> bool
+        ensures looked { HasLookedAt self.old.stream self.new.stream }
+        ensures quiet { IsTrue result → self.new.stream ≡ with_turns (Quiet ∷ []) self.old.stream }
+        ensures unread { IsTrue result → self.new.reads ≡ false }
+        ensures watched { self.new.watched ≡ self.old.watched }
+    {
+        let mut piece = [0u8; PIECE];
+        self.read(&mut piece) == Got::Nothing
     }
 
     /// Writes once of what waits, from its first byte on.

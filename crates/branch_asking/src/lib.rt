@@ -12,7 +12,7 @@ mod names_asked;
 mod network;
 mod shares;
 
-pub use asking::{Asking, Progress};
+pub use asking::{Asking, Concluded, Progress};
 pub use attempt::Attempt;
 pub use backend::Backend;
 pub use branch_end::BranchEnd;

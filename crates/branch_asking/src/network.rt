@@ -16,8 +16,8 @@ pub trait Network<W: Wire> {
     fn moment(&mut self) -> u64
         ensures told { value self.new ≡ record (value self.old) { told = (value self.old).told ++ result ∷ [] } };
 
-    /// Begins to connect to the address, over which a request of so many bytes will be written. Where it can't, the
-    /// answer is a wire whose first write fails.
+    /// Begins to connect to the address, over which so many bytes at most will be written. Where it can't, the answer
+    /// is a wire whose first write fails.
     fn connect(&mut self, address: SocketAddr, length: usize) -> W
         ensures made { value self.new ≡ record (value self.old) { made = (value self.old).made ++ address ∷ [] } }
         ensures peer { W.peer result ≡ Some address }

@@ -1,5 +1,5 @@
 -- What was read in an exchange.
-use Rattle.std.specs.Prelude.{◌≡◌, ℕ, ◌⊎◌, List, [], ◌++◌, length, take, drop, Option, Some, None, IfSome, MatchOption}
+use Rattle.std.specs.Prelude.{◌≡◌, ℕ, ◌⊎◌, List, [], ◌++◌, length, take, drop, Option, Some, None}
 use Rattle.std.proofs.Common.{arith, subst, ap, refl, sym, ◌∙◌, append-nil, append_assoc, ⊎_elim}
 use Rattle.http_pieces.specs.Cut.{Complete, Cut, Incomplete, IsCut, Refused}
 use Rattle.http_pieces.specs.ReplyHead.{reply_kind}
@@ -7,17 +7,8 @@ use Rattle.http_pieces.specs.ReplyReader.{HasReadReply, HasReadReplyTo, ReplyRea
 use Rattle.http_pieces.specs.declared.framing.Framing.{Framing}
 use Rattle.http_pieces.specs.declared.reply.HttpReply.{HttpReply}
 use Rattle.http_pieces.specs.declared.reply_fault.ReplyFault.{ReplyFault}
-use Rattle.branch_exchange.specs.Exchange.{BeginsWithReply, HasNoReply, IsLostBy, IsReading, TakesIn, loss_in}
+use Rattle.branch_exchange.specs.Exchange.{BeginsWithReply, HasNoReply, IsLostBy, IsReading, IsReplyAlone, loss_in}
 use Rattle.std.proofs.lemmas.List.{take_all, take-append-drop}
-
-reply_cut : (framing : Framing) (reading : ReplyReading) (text : List ℕ) (reply : HttpReply) → HasReadReplyTo framing reading text (Some reply)
-    → BeginsWithReply framing text reply
-reply_cut framing (Partial left) text reply h = absurd (cc h.0)
-reply_cut framing (Decoding chunks) text reply h = absurd (cc h.0)
-reply_cut framing (Waiting q) text reply h = absurd (cc h.0)
-reply_cut framing (Stopped f) text reply h = absurd (cc h.0)
-reply_cut framing Done text reply h =
-    let same : h.0 ≡ reply = cc in (h.1, subst (λ q. IsCut (reply_kind framing) text (Complete q h.1)) same h.3)
 
 -- a text is cut in one way
 abbrev CutsOnce : Framing → Type 0
@@ -60,32 +51,39 @@ fresh_reading framing once reader is h =
           (subst (λ f. HasReadReplyTo f reader.reading [] None) framed h.reads);
     }
 
--- a reader that has no reply took the whole piece; and a text that begins with a reply does so with more behind it
-pub takes_in : (framing : Framing) → CutsOnce framing
-    → ((text more : List ℕ) (q : HttpReply) (rest : List ℕ) → IsCut (reply_kind framing) text (Complete q rest) → IsCut (reply_kind framing) (text ++ more) (Complete q (rest ++ more)))
-    → (bytes piece : List ℕ) (n : ℕ) (pushed reader : ReplyReaderValue) (reply : Option HttpReply) → pushed.framing ≡ framing
-    → (n ≡ length piece) ⊎ ((q : HttpReply) × (pushed.reading ≡ Waiting q)) → ((q : HttpReply) → pushed.reading ≡ Waiting q → reply ≡ Some q)
-    → (reply ≡ None → reader ≡ pushed) → IfSome reply (λ q. reader ≡ record pushed { reading = Done }) → MatchOption reply (HasReadReply reader (bytes ++ take n piece) None) (λ q. HasReadReply reader (bytes ++ take n piece) (Some q))
-    → TakesIn framing reader (bytes ++ piece) reply
-takes_in framing once stay bytes piece n pushed reader None pushed_is all waits same after h =
+-- a reader that has no reply took the whole piece
+pub takes_none : (framing : Framing) → CutsOnce framing → (bytes piece : List ℕ) (n : ℕ) (pushed reader : ReplyReaderValue) → pushed.framing ≡ framing
+    → (n ≡ length piece) ⊎ ((q : HttpReply) × (pushed.reading ≡ Waiting q)) → ((q : HttpReply) → pushed.reading ≡ Waiting q → None ≡ Some q) → reader ≡ pushed
+    → HasReadReply reader (bytes ++ take n piece) None → IsReading framing reader (bytes ++ piece)
+takes_none framing once bytes piece n pushed reader pushed_is all waits same h =
     ⊎_elim
     (λ e.
-    let framed : reader.framing ≡ framing = ap (λ (r : ReplyReaderValue). r.framing) (same refl) ∙ pushed_is in
+    let framed : reader.framing ≡ framing = ap (λ (r : ReplyReaderValue). r.framing) same ∙ pushed_is in
     let read = subst (λ xs. HasReadReply reader (bytes ++ xs) None) (take_all n piece (omega (arith, e))) h in
     record {
       framing_is = framed;
       reads = read;
       unanswered =
-          unanswered framing once reader.reading _ (λ q is. none_is q (waits q (ap (λ (r : ReplyReaderValue). r.reading) (sym (same refl)) ∙ is)))
+          unanswered framing once reader.reading _ (λ q is. none_is q (waits q (ap (λ (r : ReplyReaderValue). r.reading) (sym same) ∙ is)))
           (subst (λ f. HasReadReplyTo f reader.reading (bytes ++ piece) None) framed read.reads);
     })
     (λ w. absurd (none_is w.0 (waits w.0 w.1)))
     all
-takes_in framing once stay bytes piece n pushed reader (Some q) pushed_is all waits same after h =
-    let framed : reader.framing ≡ framing = ap (λ (r : ReplyReaderValue). r.framing) after ∙ pushed_is in
-    let cut = reply_cut framing reader.reading _ q (subst (λ f. HasReadReplyTo f reader.reading (bytes ++ take n piece) (Some q)) framed h.reads) in
-    let whole : (bytes ++ take n piece) ++ drop n piece ≡ bytes ++ piece = append_assoc bytes (take n piece) (drop n piece) ∙ ap (λ xs. bytes ++ xs) (take-append-drop n piece) in
-    (cut.0 ++ drop n piece, subst (λ text. IsCut (reply_kind framing) text (Complete q (cut.0 ++ drop n piece))) whole (stay (bytes ++ take n piece) (drop n piece) q cut.0 cut.1))
+
+-- a reply that waits is all that was taken; and with more behind it a text begins with it
+module _ (framing : Framing) (bytes piece : List ℕ) (n : ℕ) (pushed : ReplyReaderValue) (q : HttpReply) (framed : pushed.framing ≡ framing) (waits : pushed.reading ≡ Waiting q)
+    (h : HasReadReply pushed (bytes ++ take n piece) None) where
+  taken_cut : IsReplyAlone framing (bytes ++ take n piece) q
+  taken_cut = (subst (λ r. HasReadReplyTo framing r (bytes ++ take n piece) None) waits (subst (λ f. HasReadReplyTo f pushed.reading (bytes ++ take n piece) None) framed h.reads)).1
+
+  pub taken_begins : ((text more : List ℕ) (q : HttpReply) (rest : List ℕ) → IsCut (reply_kind framing) text (Complete q rest) → IsCut (reply_kind framing) (text ++ more) (Complete q (rest ++ more)))
+      → BeginsWithReply framing (bytes ++ piece) q
+  taken_begins stay =
+      let whole : (bytes ++ take n piece) ++ drop n piece ≡ bytes ++ piece = append_assoc bytes (take n piece) (drop n piece) ∙ ap (λ xs. bytes ++ xs) (take-append-drop n piece) in
+      (drop n piece, subst (λ text. IsCut (reply_kind framing) text (Complete q (drop n piece))) whole (stay (bytes ++ take n piece) (drop n piece) q [] taken_cut))
+
+  pub taken_alone : n ≡ length piece → IsReplyAlone framing (bytes ++ piece) q
+  taken_alone all = subst (λ xs. IsReplyAlone framing (bytes ++ xs) q) (take_all n piece (omega (arith, all))) taken_cut
 
 -- a reader that has read no whole reply tells why none comes
 pub lost_by : (framing : Framing) (reader : ReplyReaderValue) (text : List ℕ) → IsReading framing reader text → IsLostBy framing text (loss_in (state_of_reply reader.reading))

@@ -13,11 +13,13 @@ use wires::Outbox;
 pub const MOST_READS: u32 = 131_072;
 
 /// A request, as far as it was written, and its reply, as far as it was read (RFC 9112). It does no input or output.
-/// Contracts see what is left of the request, and the reader of the reply.
+/// Contracts see what is left of the request, the reader of the reply, and whether nothing was read behind that.
 #[derive(Drop)]
 pub struct Exchange {
     request: Outbox,
     replies: ReplyReader,
+    /// Whether the reply is whole, and nothing was read behind it.
+    is_alone: bool,
     /// How many pieces were read that did not end it.
     reads: u32,
 }
@@ -25,12 +27,12 @@ pub struct Exchange {
 impl Model for Exchange {
     ghost Value = { ExchangeValue };
 
-    ghost view = { λ e. exchange_value e.request e.replies };
+    ghost view = { λ e. exchange_value e.request e.replies e.is_alone };
 }
 
 impl Exchange {
-    /// The whole request is to be written, and nothing was read. The reply, whose body may be framed so, is kept on this
-    /// allocator.
+    /// The whole request is to be written, and nothing was read. The reply, whose body may be framed so, is kept on
+    /// this allocator.
     pub fn new(alloc: Global, framing: Framing, request: Bytes) -> Exchange
         ensures left { result.left ≡ request }
         ensures unread { IsReading framing result.replies [] }
@@ -39,6 +41,7 @@ impl Exchange {
         Exchange {
             request: Outbox::of(request),
             replies: ReplyReader::with_framing(alloc, framing),
+            is_alone: false,
             reads: 0,
         }
     }
@@ -57,10 +60,17 @@ impl Exchange {
         &self.request
     }
 
+    /// Whether the reply is whole, and nothing was read behind it.
+    pub fn is_alone(&self) -> bool
+        ensures { result ≡ self.now.alone }
+    {
+        self.is_alone
+    }
+
     /// So many bytes more were written.
     pub fn sent(&mut self, count: usize)
         requires { count ≤ length self.old.left }
-        ensures { self.new ≡ exchange_value (drop count self.old.left) self.old.replies }
+        ensures { self.new ≡ exchange_value (drop count self.old.left) self.old.replies self.old.alone }
     {
         self.request.sent(count);
     }
@@ -72,10 +82,13 @@ impl Exchange {
         ensures left { self.new.left ≡ self.old.left }
         // Whatever was read before.
         ensures comes { (framing : Framing) (bytes : List ℕ) → IsReading framing self.old.replies bytes
-            → ComesTo framing self.old.left self.new.replies (bytes ++ piece.now) result }
+            → ComesTo framing self.new (bytes ++ piece.now) result }
     {
         match take_in(&mut self.replies, piece) {
-            Ok(Some(reply)) if self.is_sent() => Some(ExchangeEnd::Reply(reply)),
+            Ok(Some(taken)) if self.is_sent() => {
+                self.is_alone = taken.is_alone;
+                Some(ExchangeEnd::Reply(taken.reply))
+            }
             Ok(Some(_)) => Some(ExchangeEnd::Lost(Loss::Early)),
             Ok(None) => self.go_on(),
             Err(_) => Some(ExchangeEnd::NoMemory),
@@ -96,7 +109,7 @@ impl Exchange {
     fn go_on(&mut self) -> Option<ExchangeEnd>
         ensures same { self.new ≡ self.old }
         ensures comes { (framing : Framing) (bytes : List ℕ) → IsReading framing self.old.replies bytes
-            → ComesTo framing self.old.left self.new.replies bytes result }
+            → ComesTo framing self.new bytes result }
     {
         self.reads = self.reads.saturating_add(1);
         let state = self.replies.state();
@@ -118,12 +131,24 @@ fn loss_in(state: ReplyState) -> Loss
     }
 }
 
+/// A whole reply.
+#[derive(Drop)]
+struct Taken {
+    reply: HttpReply,
+    /// Whether the piece that it was read from ends with it.
+    is_alone: bool,
+}
+
 /// Takes a piece of the input, and gives the reply once it is whole. What follows it is dropped.
-fn take_in(replies: &mut ReplyReader, piece: &[u8]) -> Result<Option<HttpReply>, AllocError>
+fn take_in(replies: &mut ReplyReader, piece: &[u8]) -> Result<Option<Taken>, AllocError>
     ensures { (framing : Framing) (bytes : List ℕ) → IsReading framing replies.old bytes
-        → IfOk result (λ reply. TakesIn framing replies.new (bytes ++ piece.now) reply) }
+        → IfOk result (λ taken. TakesIn framing replies.new (bytes ++ piece.now) taken) }
 {
     reply_cut_law();
-    let _taken = replies.push(piece)?;
-    Ok(replies.take())
+    let count = replies.push(piece)?;
+    let is_alone = count == piece.len();
+    match replies.take() {
+        Some(reply) => Ok(Some(Taken { reply, is_alone })),
+        None => Ok(None),
+    }
 }

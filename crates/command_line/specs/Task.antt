@@ -12,6 +12,10 @@ use Rattle.script_replay.specs.declared.fault.Fault.TheVariants.{Memory, Words}
 abbrev pub AreShort : Admin → Type 0
 AreShort admin = (admin.drain_after ≤ 3600) × (admin.grace ≤ 3600)
 
+-- so are those for which a connection is kept
+abbrev pub IsKeeping : ℕ → Type 0
+IsKeeping seconds = (1 ≤ seconds) × (seconds ≤ 3600)
+
 -- its numbers are in their ranges
 abbrev pub IsInRange : Task → Type 0
 IsInRange Replay = ⊤
@@ -19,7 +23,7 @@ IsInRange (Check _) = ⊤
 IsInRange Version = ⊤
 IsInRange (Serve service) =
     ((1 ≤ service.workers) × (service.workers ≤ 64)) × IfSome service.connections (λ count. (1 ≤ count) × (count ≤ 1000000))
-    × IfSome service.admin AreShort
+    × IfSome service.admin AreShort × IfSome service.keep IsKeeping
 
 -- the word of `--log`: none where it is not given, an empty one where it stands alone
 abbrev pub word_of_log : Log → Option (List ℕ)

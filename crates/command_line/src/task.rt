@@ -1,7 +1,7 @@
 ghost use Rattle.std.specs.Prelude.{◌≡◌, ◌≢◌, ◌≤◌, codes, IfErr, IfOk, IfSome};
 ghost use Rattle.clap.specs.Matches.{first_value, found_of};
 ghost use Rattle.clap.specs.Values.{kind_of};
-ghost use Rattle.command_line.specs.Task.{AreShort, IsInRange, IsOfWords, word_of_log};
+ghost use Rattle.command_line.specs.Task.{AreShort, IsKeeping, IsInRange, IsOfWords, word_of_log};
 
 use clap::error::ErrorKind;
 use clap::{Arg, ArgAction, ArgMatches, Command, Error, value_parser};
@@ -87,6 +87,9 @@ pub struct Service {
     pub ready: Option<Text>,
     /// Whether replies of backends may come in chunks (RFC 9112, section 7.1).
     pub chunked: bool,
+    /// For how many seconds a connection to a backend is kept behind its reply, to be used again: 1 to 3,600; None
+    /// where none is.
+    pub keep: Option<u64>,
 }
 
 /// What is told on standard error.
@@ -147,7 +150,8 @@ fn serve_command<'a>(alloc: Global) -> Result<Command<'a>, AllocError> {
         .arg(number(alloc, "drain-after"))?
         .arg(number(alloc, "grace"))?
         .arg(option(alloc, "ready"))?
-        .arg(option(alloc, "chunked").action(ArgAction::SetTrue))
+        .arg(option(alloc, "chunked").action(ArgAction::SetTrue))?
+        .arg(number(alloc, "keep"))
 }
 
 fn check_command<'a>(alloc: Global) -> Result<Command<'a>, AllocError> {
@@ -211,6 +215,7 @@ fn service_of(alloc: Global, options: &ArgMatches<'_>) -> Result<Task, Fault>
         admin: admin_of(alloc, options)?,
         ready: text_at(alloc, options, "ready")?,
         chunked: options.get_flag("chunked"),
+        keep: keep_of(options)?,
     }))
 }
 
@@ -245,6 +250,17 @@ fn admin_of(alloc: Global, options: &ArgMatches<'_>) -> Result<Option<Admin>, Fa
         drain_after: drain_after.unwrap_or(0),
         grace: grace.unwrap_or(USUAL_GRACE),
     }))
+}
+
+/// For how many seconds connections to backends are kept, if they are.
+fn keep_of(options: &ArgMatches<'_>) -> Result<Option<u64>, Fault>
+    ensures faults { IfErr result IsOfWords }
+    ensures in_range { IfOk result (λ keep. IfSome keep IsKeeping) }
+{
+    match seconds_of(options, "keep")? {
+        Some(0) => Err(Fault::Words),
+        keep => Ok(keep),
+    }
 }
 
 /// The seconds that an option says, if it is given.

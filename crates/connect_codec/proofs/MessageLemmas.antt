@@ -1,6 +1,6 @@
 -- The bytes of a message, field by field.
 use Rattle.std.proofs.Common.{◌≡◌, ℕ, Bool, true, false, List, [], ◌∷◌, ◌++◌, refl, sym, ap, ◌∙◌, append_assoc, ◌==◌, ◌≢◌, length, arith, Some, None, Option, codes}
-use Rattle.std.specs.Prelude.{decimal, option_map}
+use Rattle.std.specs.Prelude.{decimal, option_map, not}
 use Rattle.std.proofs.lemmas.Bool.{eq-eqb}
 use Rattle.std.proofs.lemmas.Bool.Decides.{nat_tests}
 use Rattle.std.proofs.lemmas.Grind.{flat_map-append}
@@ -102,14 +102,13 @@ first_ends call start host typed sized version timed named e0 e1 e2 e3 e4 e5 e6 
     let six = lines_grow start timed named (at ∷ kind ∷ len ∷ protocol ∷ [] ++ time) id five e6 in
     six ∙ ap (λ xs. xs ++ lines (first_fields call)) e0
 
-pub branch_request_ends : (call : BranchCall) (first more closed : List ℕ) → first ≡ (request_line call.path ++ crlf) ++ lines (first_fields call)
+pub branch_request_ends : (call : BranchCall) (first more : List ℕ) → first ≡ (request_line call.path ++ crlf) ++ lines (first_fields call)
     → more ≡ first ++ lines call.passed
-    → closed ≡ more ++ field_line (codes "Connection", codes "close")
-    → closed ++ crlf ++ call.body ≡ branch_request call
+    → more ++ lines (field_if (not call.keeps) (codes "Connection", codes "close")) ++ crlf ++ call.body ≡ branch_request call
 unfolding branch_request
-branch_request_ends call first more closed e0 e1 e2 =
+branch_request_ends call first more e0 e1 =
     let start = request_line call.path ++ crlf in
-    let close : NamedValue = (codes "Connection", codes "close") in
+    let close : List NamedValue = field_if (not call.keeps) (codes "Connection", codes "close") in
     let two = lines_grow start first more (first_fields call) call.passed e0 e1 in
-    let three = lines_grow start more closed (first_fields call ++ call.passed) (close ∷ []) two (one_line more closed close e2) in
-    message_ends (request_line call.path) closed call.body (branch_fields call) three
+    let three = lines_grow start more (more ++ lines close) (first_fields call ++ call.passed) close two refl in
+    message_ends (request_line call.path) (more ++ lines close) call.body (branch_fields call) three

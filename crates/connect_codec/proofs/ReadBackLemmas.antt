@@ -1,6 +1,6 @@
 -- The messages of this crate, read back.
 use Rattle.std.proofs.Common.{◌≡◌, ℕ, ◌/◌, ◌≤◌, ◌<◌, ◌^◌, Bool, true, false, List, [], ◌∷◌, ◌++◌, map, length, refl, ◌∙◌, append_assoc, arith, lit≤, lit<, ◌==◌, get_or, codes, Some, None, cond}
-use Rattle.std.specs.Prelude.{All, decimal, min, Option, is_some, option_map, unwrap_or, IfSome}
+use Rattle.std.specs.Prelude.{All, decimal, min, not, Option, is_some, option_map, unwrap_or, IfSome}
 use Rattle.std.proofs.lemmas.Bool.Decides.{nat_tests}
 use Rattle.std.proofs.lemmas.Fmt.{decimal_is_IsNumeral, decimal_step, decimal_digit}
 use Rattle.std.proofs.lemmas.List.Folds.{list_all-append}
@@ -260,24 +260,25 @@ first_fields_sound call sendable =
     (all_of (codes "Connect-Timeout-Ms") (option_map timeout_text call.remaining) refl (timeout_seen call.remaining)))
     (all_of (codes "X-Request-Id") call.request_id refl sendable.request_id)
 
-abbrev close : List NamedValue
-close = (codes "Connection", codes "close") ∷ []
+-- the field that asks for the close, where it is due
+abbrev close : BranchCall → List NamedValue
+close call = field_if (not call.keeps) (codes "Connection", codes "close")
 
-close_sound : list_all is_sound close ≡ true
+close_sound : (call : BranchCall) → list_all is_sound (close call) ≡ true
 unfolding httparse_on_literals
-close_sound = refl
+close_sound call = all_if (not call.keeps) _ refl
 
 branch_fields_are : (call : BranchCall) → IsSendable call → All IsField (map as_field (branch_fields call))
 branch_fields_are call sendable =
-    both_fields (first_fields call ++ call.passed) close
+    both_fields (first_fields call ++ call.passed) (close call)
     (both_fields (first_fields call) call.passed (all_fields (first_fields call) (first_fields_sound call sendable)) (found_fields call.passed sendable.passed))
-    (all_fields close close_sound)
+    (all_fields (close call) (close_sound call))
 
 branch_values_are : (call : BranchCall) → IsSendable call → map name_and_value (map as_field (branch_fields call)) ≡ branch_fields call
 branch_values_are call sendable =
-    both_values (first_fields call ++ call.passed) close
+    both_values (first_fields call ++ call.passed) (close call)
     (both_values (first_fields call) call.passed (all_values (first_fields call) (first_fields_sound call sendable)) (found_values call.passed sendable.passed))
-    (all_values close close_sound)
+    (all_values (close call) (close_sound call))
 
 values_of_other : (name other : List ℕ) (found : Option (List ℕ)) → same_without_case other name ≡ false → values_of name (field_of other found) ≡ []
 values_of_other name other None e = refl
@@ -286,14 +287,14 @@ values_of_other name other (Some value) e = rw e refl
 -- what stands behind the first four fields has none of the names that frame a message, if none that is passed on has
 behind : (name : List ℕ) (call : BranchCall) → same_without_case (codes "Connect-Timeout-Ms") name ≡ false → same_without_case (codes "X-Request-Id") name ≡ false
     → same_without_case (codes "Connection") name ≡ false → NoneNamed name call.passed
-    → values_of name (field_of (codes "Connect-Timeout-Ms") (option_map timeout_text call.remaining) ++ field_of (codes "X-Request-Id") call.request_id ++ call.passed ++ close) ≡ []
+    → values_of name (field_of (codes "Connect-Timeout-Ms") (option_map timeout_text call.remaining) ++ field_of (codes "X-Request-Id") call.request_id ++ call.passed ++ close call) ≡ []
 behind name call a b c none =
     let time = field_of (codes "Connect-Timeout-Ms") (option_map timeout_text call.remaining) in
     let id = field_of (codes "X-Request-Id") call.request_id in
-    values_of_none name (time ++ id ++ call.passed) close
+    values_of_none name (time ++ id ++ call.passed) (close call)
     (values_of_none name (time ++ id) call.passed
     (values_of_none name time id (values_of_other name _ (option_map timeout_text call.remaining) a) (values_of_other name _ call.request_id b)) none)
-    (rw c refl)
+    (values_if name (not call.keeps) _ c)
 
 pub branch_framed : (call : BranchCall) → IsSendable call → Frames (branch_fields call) (length call.body)
 unfolding same_without_case

@@ -1,8 +1,11 @@
 -- Rows of the definitions, by computation.
-use Rattle.std.proofs.Common.{◌≡◌, List, ℕ, [], ◌∷◌, codes, refl}
+use Rattle.std.proofs.Common.{◌≡◌, Bool, true, false, List, ℕ, [], ◌∷◌, Some, codes, refl}
+use Rattle.std.specs.Fmt.{digits}
 use Rattle.httparse.specs.Grammar.{trim_ows}
 use Rattle.http_pieces.specs.Fields.{NamedValue, has_option, same_without_case}
 use Rattle.http_pieces.specs.Names.{same_name}
+use Rattle.connect_codec.specs.Message.{message_bytes}
+use Rattle.connect_codec.specs.BranchRequest.{BranchCall, branch_request}
 use Rattle.connect_codec.specs.Passed.{passed}
 
 -- ---- the fields that are passed on
@@ -39,3 +42,28 @@ none_that_the_connection_names = refl
 named_behind_it : passed names (authorization ∷ (codes "connection", codes "authorization") ∷ []) ≡ []
 unfolding same_name same_without_case has_option trim_ows
 named_behind_it = refl
+
+-- ---- the request to a branch
+
+abbrev asked : Bool → BranchCall
+asked keeps = record {
+  address = codes "127.0.0.1:9004";
+  path = codes "/acme.v1.Car/Find";
+  remaining = Some 90;
+  request_id = Some (codes "r-7");
+  passed = authorization ∷ [];
+  body = codes "{}";
+  keeps = keeps;
+}
+
+-- the connection is closed
+asks_for_the_close : branch_request (asked false)
+    ≡ codes "POST /acme.v1.Car/Find HTTP/1.1\r\nHost: 127.0.0.1:9004\r\nContent-Type: application/json\r\nContent-Length: 2\r\nConnect-Protocol-Version: 1\r\nConnect-Timeout-Ms: 90\r\nX-Request-Id: r-7\r\nAuthorization: Bearer a, b\r\nConnection: close\r\n\r\n{}"
+unfolding digits branch_request message_bytes
+asks_for_the_close = refl
+
+-- the connection is kept
+asks_for_no_close : branch_request (asked true)
+    ≡ codes "POST /acme.v1.Car/Find HTTP/1.1\r\nHost: 127.0.0.1:9004\r\nContent-Type: application/json\r\nContent-Length: 2\r\nConnect-Protocol-Version: 1\r\nConnect-Timeout-Ms: 90\r\nX-Request-Id: r-7\r\nAuthorization: Bearer a, b\r\n\r\n{}"
+unfolding digits branch_request message_bytes
+asks_for_no_close = refl

@@ -14,6 +14,7 @@ call_passing passed ask = record {
   request_id = option_copied ask.request_id;
   passed = passed;
   body = ask.body.now;
+  keeps = ask.keeps;
 }
 
 -- no field is passed on

@@ -11,4 +11,6 @@ pub struct BranchAsk<'a> {
     pub request_id: Option<&'a [u8]>,
     /// The body, byte for byte that of the call.
     pub body: &'a [u8],
+    /// Whether its connection is kept once the reply is there. Else the request asks for the close.
+    pub keeps: bool,
 }

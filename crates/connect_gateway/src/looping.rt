@@ -26,7 +26,7 @@ use std::sync::Arc;
 use std::sync::atomic::Ordering;
 use std::time::Duration;
 use std::{io, thread};
-use wires::Told;
+use wires::{Told, Wire};
 
 /// A loop ends where so many waits in a row failed.
 const MOST_FAILURES: u32 = 300;
@@ -51,6 +51,8 @@ pub(crate) struct Common<M> {
     pub(crate) main: Arc<MainSide>,
     /// How replies of backends may be framed.
     pub(crate) framing: Framing,
+    /// For how many milliseconds connections to backends are kept; None where none is.
+    pub(crate) keep: Option<u64>,
 }
 
 // Clauses see nothing of it, which keeps proofs small.
@@ -108,7 +110,7 @@ impl<M: NetHost> Looping<M> {
         let main = Arc::try_clone(&common.main)?;
         Ok(Looping {
             rt: common.rt,
-            event_loop: EventLoop::new(common.alloc, plans, common.framing)?,
+            event_loop: EventLoop::new(common.alloc, plans, common.framing, common.keep)?,
             network,
             comings,
             mail,
@@ -159,8 +161,8 @@ impl<M: NetHost> Looping<M> {
         unreachable!()
     }
 
-    /// A turn, and what this stage of a drain asks for. The calls that are left are ended from the stage on that asks for
-    /// that, and in no other.
+    /// A turn, and what this stage of a drain asks for. The calls that are left are ended from the stage on that asks
+    /// for that, and in no other.
     fn turn(&mut self, stage: Stage)
         ensures plans { self.new.plans ≡ self.old.plans }
         ensures drained { self.new.drained ≡ (self.old.drained || ends_calls stage) }
@@ -260,8 +262,8 @@ pub(crate) struct MioNetwork<M> {
     side: Arc<LoopSide>,
     resolver: Arc<Resolver>,
     log: Option<LoopLog>,
-    // for proofs: the moments that it told, the streams that it made, by their addresses, and closed, and the names that
-    // it took to look up
+    // for proofs: the moments that it told, the streams that it made, by their addresses, and closed, and the names
+    // that it took to look up
     told: Log<u64, ()>,
     made: Log<SocketAddr, ()>,
     closed: Log<Told<Socket>, ()>,
@@ -304,8 +306,8 @@ impl<M: Host> MioNetwork<M> {
         })
     }
 
-    /// Waits until the next turn is due or the loop is woken, and tells what is ready. Answers whether more may be ready
-    /// than one wait brings. It does not wait, where nothing of that can be told.
+    /// Waits until the next turn is due or the loop is woken, and tells what is ready. Answers whether more may be
+    /// ready than one wait brings. It does not wait, where nothing of that can be told.
     pub(crate) fn wait(&mut self, next: NextTurn, ready: &mut Vec<Ready>) -> io::Result<bool> {
         ready.clear();
         // the system tells each of them once
@@ -369,7 +371,11 @@ impl<M: NetHost> Network<Told<Socket>> for MioNetwork<M> {
         // so it takes no `&mut` of the socket itself, whose reads and writes its wire notes
         let mut source = SourceFd(&descriptor);
         let registry = self.poll.registry();
-        let registered = registry.register(&mut source, Token(token), interests);
+        // one that is used again was watched before
+        let registered = match wire.watched() {
+            None => registry.register(&mut source, Token(token), interests),
+            Some(_) => registry.reregister(&mut source, Token(token), interests),
+        };
         if registered.is_err() {
             return false;
         }

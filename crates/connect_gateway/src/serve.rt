@@ -32,8 +32,8 @@ use std::time::{Duration, Instant};
 /// A second, in milliseconds.
 const SECOND: u64 = 1_000;
 
-/// A worker needs so many descriptors at most: for its connections, for streams that linger, for backends that are asked
-/// and for those that are to close first, and for itself.
+/// A worker needs so many descriptors at most: for its connections, for streams that linger, for backends that are
+/// asked and for those that are to close first, and for itself.
 const DESCRIPTORS: u64 = 1_224;
 
 /// So many more are enough for the program: for streams that wait for a place, for names that are looked up, four each,
@@ -87,6 +87,7 @@ fn serve_plans<M: NetHost>(
         names: dealer.is_asked().then_some(plans.names),
         main: Arc::try_clone(&dealer.main)?,
         framing: framing_of(service),
+        keep: service.keep.map(|seconds| seconds.saturating_mul(1_000)),
     };
     log.listens(service, plans.count);
     let most = service.connections.unwrap_or(u64::MAX);

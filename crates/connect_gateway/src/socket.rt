@@ -47,7 +47,7 @@ impl Socket {
         })
     }
 
-    /// One that begins to connect to a backend, over which a request of so many bytes will be written.
+    /// One that begins to connect to a backend, over which so many bytes at most will be written.
     pub(crate) fn to_backend<R: Net>(rt: &R, address: SocketAddr, length: usize) -> Socket {
         Socket {
             seat: None,

@@ -1,5 +1,5 @@
 -- How each step changes what a loop's lists say of its streams.
-use Rattle.gateway_loop.proofs.Words.{◌≡◌, ℕ, ◌+◌, Bool, cond, List, [], ◌∷◌, ◌++◌, length, map, Option, None, Some, refl, sym, ap, ◌∙◌, subst, arith, append_assoc, append-nil, ⊎_elim, count_by, sum_by, option_map, slice_index_or, option_map_or, map-append, sum_by-append, sum_by-cons, Outcome, SocketAddr, AskingState, AskingValue, ClientValue, EndedValue, LoopValue, StreamValue, asked_for, ended_value, whole_loop, Beside, FoundValue, beside, WholeLoop, Framing, Contains, option_to_list}
+use Rattle.gateway_loop.proofs.Words.{◌≡◌, ℕ, ◌+◌, Bool, cond, List, [], ◌∷◌, ◌++◌, length, map, Option, None, Some, refl, sym, ap, ◌∙◌, subst, arith, append_assoc, append-nil, ⊎_elim, count_by, sum_by, option_map, slice_index_or, option_map_or, map-append, sum_by-append, sum_by-cons, Outcome, SocketAddr, AskingState, AskingValue, ClientValue, EndedValue, LoopValue, StreamValue, asked_for, ended_value, whole_loop, Beside, FoundValue, beside, WholeLoop, Manner, KeptValue, kept_streams, Contains, option_to_list}
 use Rattle.gateway_loop.specs.Loop.{StartsLoop}
 use Rattle.std.proofs.lemmas.List.{length-append}
 use Rattle.loop_model.specs.Accounts.{Account, AccountsFor, AccountsOn, NetworkValue, closed_client, count_dealt, count_left, count_made, first_account, streams_before, with_more}
@@ -7,7 +7,7 @@ use Rattle.loop_model.specs.Asking.{peers_of, streams_for}
 use Rattle.loop_model.specs.Found.{Asked, Found, IsAwaited, LookUp, asked_in, found_in}
 use Rattle.loop_model.specs.Standing.{count_clients}
 use Rattle.loop_model.specs.Streams.{ClosedValue, StreamValue, closed_stream, stream_value}
-use Rattle.branch_asking.specs.Streams.{Connects, GoesOver, HasStreamsOf, left_by, stream_now}
+use Rattle.branch_asking.specs.Streams.{Connects, GoesOver, GoesOverAgain, HasStreamsOf, stream_now, without_turns}
 use Rattle.gateway_loop.specs.Clients.{HasCome, HasGone, IsStill, IsTold, IsTurnedAway, LetsGo, TakesIn}
 use Rattle.gateway_loop.specs.Closing.{ClosesFrom}
 use Rattle.gateway_loop.specs.Names.{AreSame, AsksFor, IsAskedFor, Leaves}
@@ -57,9 +57,9 @@ count_mapped p gone x =
     let same : count_by p (closed_client x ∷ []) ≡ cond (p (closed_client x)) 1 0 + 0 = sum_by-cons (λ (c : ClosedValue). cond (p c) 1 0) (closed_client x) [] in
     omega (arith, more, one, same)
 
-module _ (framing : Framing) (asking : List (Option AskingState)) (ended : List (AskingState × Option Outcome)) (rest : Beside) (l m : LoopValue) where
+module _ (manner : Manner) (asking : List (Option AskingState)) (ended : List (AskingState × Option Outcome)) (rest : Beside) (l m : LoopValue) where
   -- nobody came or went
-  pub still_accounts : (a : NetworkValue) → IsStill l m → (u : Account) → AccountsFor u a (whole_loop framing l asking ended rest) → AccountsFor u a (whole_loop framing m asking ended rest)
+  pub still_accounts : (a : NetworkValue) → IsStill l m → (u : Account) → AccountsFor u a (whole_loop manner l asking ended rest) → AccountsFor u a (whole_loop manner m asking ended rest)
   still_accounts a s u f = record {
     told = f.told ∙ ap (λ (t : List ℕ). u.before.told ++ t) (sym s.told);
     made = f.made;
@@ -80,7 +80,7 @@ module _ (framing : Framing) (asking : List (Option AskingState)) (ended : List 
   }
 
   -- a moment was told
-  pub told_accounts : (a b : NetworkValue) → IsTold a b l m → (u : Account) → AccountsFor u a (whole_loop framing l asking ended rest) → AccountsFor u b (whole_loop framing m asking ended rest)
+  pub told_accounts : (a b : NetworkValue) → IsTold a b l m → (u : Account) → AccountsFor u a (whole_loop manner l asking ended rest) → AccountsFor u b (whole_loop manner m asking ended rest)
   told_accounts a b s u f = record {
     told = ap (λ (v : NetworkValue). v.told) s.net ∙ ap (λ (t : List ℕ). t ++ s.moment ∷ []) f.told ∙ append_assoc u.before.told l.told (s.moment ∷ []) ∙ ap (λ (t : List ℕ). u.before.told ++ t) (sym s.told);
     made = λ p. ap (λ (v : NetworkValue). count_by p v.made) s.net ∙ f.made p;
@@ -103,13 +103,13 @@ module _ (framing : Framing) (asking : List (Option AskingState)) (ended : List 
 
   -- nobody was there to go
   none_goes : (a b : NetworkValue) → m.told ≡ l.told → m.unserved ≡ l.unserved → (b ≡ a) × (m.gone ≡ l.gone) × (count_clients m.clients ≡ count_clients l.clients)
-      → (u : Account) → AccountsFor u a (whole_loop framing l asking ended rest) → AccountsFor u b (whole_loop framing m asking ended rest)
+      → (u : Account) → AccountsFor u a (whole_loop manner l asking ended rest) → AccountsFor u b (whole_loop manner m asking ended rest)
   none_goes a b told unserved (net, gone, there) u f =
-      subst (λ (v : NetworkValue). AccountsFor u v (whole_loop framing m asking ended rest)) (sym net)
+      subst (λ (v : NetworkValue). AccountsFor u v (whole_loop manner m asking ended rest)) (sym net)
       (still_accounts a record { told = told; gone = gone; unserved = unserved; there = there } u f)
 
   one_goes : (a b : NetworkValue) → m.told ≡ l.told → m.unserved ≡ l.unserved → HasGone a b l m
-      → (u : Account) → AccountsFor u a (whole_loop framing l asking ended rest) → AccountsFor u b (whole_loop framing m asking ended rest)
+      → (u : Account) → AccountsFor u a (whole_loop manner l asking ended rest) → AccountsFor u b (whole_loop manner m asking ended rest)
   one_goes a b told unserved (x, net, gone, there) u f = record {
     told = ap (λ (v : NetworkValue). v.told) net ∙ f.told ∙ ap (λ (t : List ℕ). u.before.told ++ t) (sym told);
     made = λ p. ap (λ (v : NetworkValue). count_by p v.made) net ∙ f.made p;
@@ -130,13 +130,13 @@ module _ (framing : Framing) (asking : List (Option AskingState)) (ended : List 
   }
 
   -- a client has gone
-  pub goes_accounts : (a b : NetworkValue) → LetsGo a b l m → (u : Account) → AccountsFor u a (whole_loop framing l asking ended rest) → AccountsFor u b (whole_loop framing m asking ended rest)
+  pub goes_accounts : (a b : NetworkValue) → LetsGo a b l m → (u : Account) → AccountsFor u a (whole_loop manner l asking ended rest) → AccountsFor u b (whole_loop manner m asking ended rest)
   goes_accounts a b s u f =
       ⊎_elim (λ (none : (b ≡ a) × (m.gone ≡ l.gone) × (count_clients m.clients ≡ count_clients l.clients)). none_goes a b s.told s.unserved none u f)
       (λ (gone : HasGone a b l m). one_goes a b s.told s.unserved gone u f) s.one
 
   one_comes : (a b : NetworkValue) → m.told ≡ l.told → m.gone ≡ l.gone → HasCome a b l m
-      → (u : Account) → AccountsFor u a (whole_loop framing l asking ended rest) → AccountsFor (with_dealt 1 u) b (whole_loop framing m asking ended rest)
+      → (u : Account) → AccountsFor u a (whole_loop manner l asking ended rest) → AccountsFor (with_dealt 1 u) b (whole_loop manner m asking ended rest)
   one_comes a b told gone (net, unserved, there) u f = record {
     told = ap (λ (v : NetworkValue). v.told) net ∙ f.told ∙ ap (λ (t : List ℕ). u.before.told ++ t) (sym told);
     made = λ p. ap (λ (v : NetworkValue). count_by p v.made) net ∙ f.made p;
@@ -157,7 +157,7 @@ module _ (framing : Framing) (asking : List (Option AskingState)) (ended : List 
   }
 
   one_away : (a b : NetworkValue) → m.told ≡ l.told → m.gone ≡ l.gone → IsTurnedAway a b l m
-      → (u : Account) → AccountsFor u a (whole_loop framing l asking ended rest) → AccountsFor (with_dealt 1 u) b (whole_loop framing m asking ended rest)
+      → (u : Account) → AccountsFor u a (whole_loop manner l asking ended rest) → AccountsFor (with_dealt 1 u) b (whole_loop manner m asking ended rest)
   one_away a b told gone (s, net, unserved, there) u f = record {
     told = ap (λ (v : NetworkValue). v.told) net ∙ f.told ∙ ap (λ (t : List ℕ). u.before.told ++ t) (sym told);
     made = λ p. ap (λ (v : NetworkValue). count_by p v.made) net ∙ f.made p;
@@ -178,9 +178,9 @@ module _ (framing : Framing) (asking : List (Option AskingState)) (ended : List 
   }
 
   -- a stream was dealt
-  pub admits_accounts : (a b : NetworkValue) → TakesIn a b l m → AccountsOn 1 [] a b (whole_loop framing l asking ended rest) (whole_loop framing m asking ended rest)
+  pub admits_accounts : (a b : NetworkValue) → TakesIn a b l m → AccountsOn 1 [] a b (whole_loop manner l asking ended rest) (whole_loop manner m asking ended rest)
   admits_accounts a b s u f =
-      none_done 1 u b (whole_loop framing m asking ended rest)
+      none_done 1 u b (whole_loop manner m asking ended rest)
       (⊎_elim (λ (came : HasCome a b l m). one_comes a b s.told s.gone came u f) (λ (away : IsTurnedAway a b l m). one_away a b s.told s.gone away u f) s.one)
 
 -- ---- jobs
@@ -195,7 +195,7 @@ abbrev left_of : (ClosedValue → Bool) → Option AskingValue → ℕ
 left_of p o = option_map_or (λ (x : AskingValue). count_by p (streams_before x)) o 0
 
 -- one place changed
-sum_of_put : (f : Option AskingValue → ℕ) → f None ≡ 0 → (old new : List (Option AskingState)) (i : ℕ) (o n : Option AskingState) → slice_index_or old i None ≡ o → Put old new i n
+pub sum_of_put : (f : Option AskingValue → ℕ) → f None ≡ 0 → (old new : List (Option AskingState)) (i : ℕ) (o n : Option AskingState) → slice_index_or old i None ≡ o → Put old new i n
     → sum_by f (map show new) + f (show o) ≡ sum_by f (map show old) + f (show n)
 sum_of_put f none old new i o n was put =
     let changed = sum_put (λ (s : Option AskingState). f (show s)) none old new i put.there in
@@ -212,24 +212,42 @@ peer_of v = v.peer
 peers_are : (x : AskingValue) → peers_of (streams_for x) ≡ peers_of x.tried ++ peers_of (option_to_list x.stream)
 peers_are x = map-append peer_of x.tried (option_to_list x.stream)
 
+-- where they are the same but for their turns
+same_peers : (o n : Option StreamValue) → option_map without_turns n ≡ option_map without_turns o → peers_of (option_to_list n) ≡ peers_of (option_to_list o)
+same_peers o n same = by_it n ∙ ap (λ (k : Option StreamValue). peers_of (option_to_list k)) same ∙ sym (by_it o)
+  where
+    by_it : (k : Option StreamValue) → peers_of (option_to_list k) ≡ peers_of (option_to_list (option_map without_turns k))
+    by_it None = refl
+    by_it (Some t) = refl
+
 -- it goes over the same streams
 same_made : (p : SocketAddr → Bool) (x y : AskingValue) → HasStreamsOf x y → made_of p (Some y) ≡ made_of p (Some x)
 same_made p x y s =
     ap (count_by p) (peers_are y ∙ ap (λ (t : List StreamValue). peers_of t ++ peers_of (option_to_list y.stream)) s.tried
-    ∙ ap (λ (l : List SocketAddr). peers_of x.tried ++ l) s.peer ∙ sym (peers_are x))
+    ∙ ap (λ (l : List SocketAddr). peers_of x.tried ++ l) (same_peers x.stream y.stream s.stream) ∙ sym (peers_are x))
 
 same_left : (p : ClosedValue → Bool) (x y : AskingValue) → HasStreamsOf x y → left_of p (Some y) ≡ left_of p (Some x)
 same_left p x y s = ap (λ (t : List StreamValue). count_by p (map (λ (v : StreamValue). closed_stream v) t)) s.tried
 
--- a stream that is left leads where it led
-left_peers : (x : AskingValue) (o : Option Outcome) (s : Option StreamValue) → x.stream ≡ s → peers_of (left_by x o) ≡ peers_of (option_to_list x.stream)
-left_peers x o None is = rw is refl
-left_peers x o (Some s) is = rw is refl
+-- streams more that are left, or kept
+left_count : (p : SocketAddr → Bool) (left later gone : List StreamValue) → later ≡ left ++ gone → count_by p (peers_of later) ≡ count_by p (peers_of left) + count_by p (peers_of gone)
+left_count p left later gone is = ap (λ (t : List StreamValue). count_by p (peers_of t)) is ∙ ap (count_by p) (map-append peer_of left gone) ∙ count_append p (peers_of left) (peers_of gone)
 
-module _ (framing : Framing) (l m : LoopValue) (old new : List (Option AskingState)) (ended : List (AskingState × Option Outcome)) (rest : Beside) (i : ℕ) where
+closed_count : (p : ClosedValue → Bool) (left later gone : List StreamValue) → later ≡ left ++ gone
+    → count_by p (map closed_stream later) ≡ count_by p (map closed_stream left) + count_by p (map closed_stream gone)
+closed_count p left later gone is =
+    ap (λ (t : List StreamValue). count_by p (map closed_stream t)) is ∙ ap (count_by p) (map-append closed_stream left gone) ∙ count_append p (map closed_stream left) (map closed_stream gone)
+
+kept_count : (p : SocketAddr → Bool) (kept later stays : List KeptValue) → later ≡ kept ++ stays
+    → count_by p (peers_of (kept_streams later)) ≡ count_by p (peers_of (kept_streams kept)) + count_by p (peers_of (kept_streams stays))
+kept_count p kept later stays is =
+    ap (λ (t : List KeptValue). count_by p (peers_of (kept_streams t))) is ∙ ap (λ (t : List StreamValue). count_by p (peers_of t)) (map-append (λ (k : KeptValue). k.stream) kept stays)
+    ∙ ap (count_by p) (map-append peer_of (kept_streams kept) (kept_streams stays)) ∙ count_append p (peers_of (kept_streams kept)) (peers_of (kept_streams stays))
+
+module _ (manner : Manner) (l m : LoopValue) (old new : List (Option AskingState)) (ended : List (AskingState × Option Outcome)) (rest : Beside) (i : ℕ) where
   -- one went on over the same streams
   pub put_accounts : (a : NetworkValue) (x y : AskingState) → slice_index_or old i None ≡ Some x → Put old new i (Some y) → HasStreamsOf (asked_for x) (asked_for y)
-      → (u : Account) → AccountsFor u a (whole_loop framing l old ended rest) → AccountsFor u a (whole_loop framing l new ended rest)
+      → (u : Account) → AccountsFor u a (whole_loop manner l old ended rest) → AccountsFor u a (whole_loop manner l new ended rest)
   put_accounts a x y was put s u f = record {
     told = f.told;
     made = λ p.
@@ -250,7 +268,7 @@ module _ (framing : Framing) (l m : LoopValue) (old new : List (Option AskingSta
 
   -- .. over another
   pub over_accounts : (a b : NetworkValue) (x y : AskingState) (address : SocketAddr) → slice_index_or old i None ≡ Some x → Put old new i (Some y) → GoesOver address a b (asked_for x) (asked_for y)
-      → (u : Account) → AccountsFor u a (whole_loop framing l old ended rest) → AccountsFor u b (whole_loop framing l new ended rest)
+      → (u : Account) → AccountsFor u a (whole_loop manner l old ended rest) → AccountsFor u b (whole_loop manner l new ended rest)
   over_accounts a b x y address was put s u f = record {
     told = ap (λ (v : NetworkValue). v.told) s.net ∙ f.told;
     made = λ p.
@@ -280,19 +298,19 @@ module _ (framing : Framing) (l m : LoopValue) (old new : List (Option AskingSta
   }
 
   pub connects_accounts : (a b : NetworkValue) (x y : AskingState) → slice_index_or old i None ≡ Some x → Put old new i (Some y) → Connects a b (asked_for x) (asked_for y)
-      → (u : Account) → AccountsFor u a (whole_loop framing l old ended rest) → AccountsFor u b (whole_loop framing l new ended rest)
+      → (u : Account) → AccountsFor u a (whole_loop manner l old ended rest) → AccountsFor u b (whole_loop manner l new ended rest)
   connects_accounts a b x y was put s u f =
       ⊎_elim
       (λ (same : (b ≡ a) × HasStreamsOf (asked_for x) (asked_for y)).
-      subst (λ (v : NetworkValue). AccountsFor u v (whole_loop framing l new ended rest)) (sym same.0) (put_accounts a x y was put same.1 u f))
+      subst (λ (v : NetworkValue). AccountsFor u v (whole_loop manner l new ended rest)) (sym same.0) (put_accounts a x y was put same.1 u f))
       (λ (over : (address : SocketAddr) × GoesOver address a b (asked_for x) (asked_for y)). over_accounts a b x y over.0 was put over.1 u f)
       s
 
   -- one began
   pub begin_accounts : (a : NetworkValue) (y : AskingState) → IsStill l m → slice_index_or old i None ≡ None → Put old new i (Some y) → (asked_for y).tried ≡ [] → (asked_for y).stream ≡ None
-      → (u : Account) → AccountsFor u a (whole_loop framing l old ended rest) → AccountsFor u a (whole_loop framing m new ended rest)
+      → (u : Account) → AccountsFor u a (whole_loop manner l old ended rest) → AccountsFor u a (whole_loop manner m new ended rest)
   begin_accounts a y still vacant put none alone u f =
-      let g = still_accounts framing old ended rest l m a still u f in record {
+      let g = still_accounts manner old ended rest l m a still u f in record {
         told = g.told;
         made = λ p.
             let before = g.made p in
@@ -310,13 +328,15 @@ module _ (framing : Framing) (l m : LoopValue) (old new : List (Option AskingSta
         awaited = g.awaited;
       }
 
-  -- one ended, and its stream is left
-  pub end_accounts : (a b : NetworkValue) (x y : AskingState) (o : Option Outcome) (ended' : List (AskingState × Option Outcome)) (left' : List StreamValue) (closing' : List ClosedValue) → IsStill l m → slice_index_or old i None ≡ Some x → Put old new i None
-      → HasStreamsOf (asked_for x) (asked_for y) → ended' ≡ ended ++ (y, o) ∷ [] → left' ≡ rest.left ++ left_by (asked_for y) o → ClosesFrom a b (map closed_stream (left_by (asked_for y) o) ++ rest.closing) closing'
-      → (u : Account) → AccountsFor u a (whole_loop framing l old ended rest) → AccountsFor u b (whole_loop framing m new ended' (beside left' closing' rest.looked_up rest.waits))
-  end_accounts a b x y o ended' left' closing' still was put same more leaves closes u f =
-      let g = still_accounts framing old ended rest l m a still u f in
-      let own = left_by (asked_for y) o in
+  -- one ended, and its stream is kept, or left
+  pub end_accounts : (a b : NetworkValue) (x y : AskingState) (o : Option Outcome) (ended' : List (AskingState × Option Outcome)) (kept' : List KeptValue) (left' : List StreamValue) (closing' : List ClosedValue)
+      (stays : List KeptValue) (gone : List StreamValue) → IsStill l m → slice_index_or old i None ≡ Some x → Put old new i None
+      → HasStreamsOf (asked_for x) (asked_for y) → ended' ≡ ended ++ (y, o) ∷ [] → kept' ≡ rest.kept ++ stays → left' ≡ rest.left ++ gone
+      → ((p : SocketAddr → Bool) → count_by p (peers_of (kept_streams stays)) + count_by p (peers_of gone) ≡ count_by p (peers_of (option_to_list (asked_for y).stream)))
+      → ClosesFrom a b (map closed_stream gone ++ rest.closing) closing'
+      → (u : Account) → AccountsFor u a (whole_loop manner l old ended rest) → AccountsFor u b (whole_loop manner m new ended' (beside kept' left' closing' rest.looked_up rest.waits))
+  end_accounts a b x y o ended' kept' left' closing' stays gone still was put same more stay leaves parts closes u f =
+      let g = still_accounts manner old ended rest l m a still u f in
       let shown : AskingState × Option Outcome → EndedValue = λ (d : AskingState × Option Outcome). ended_value (asked_for d.0) d.1 in
       let ends : map shown ended' ≡ map shown ended ++ shown (y, o) ∷ [] = ap (map shown) more ∙ map-append shown ended ((y, o) ∷ []) in record {
         told = closes.told ∙ g.told;
@@ -329,30 +349,84 @@ module _ (framing : Framing) (l m : LoopValue) (old new : List (Option AskingSta
             let total = ap (sum_by of_ended) ends ∙ sum_by-append of_ended (map shown ended) (shown (y, o) ∷ []) in
             let last = sum_by-cons of_ended (shown (y, o)) [] in
             let both = ap (count_by p) (peers_are (asked_for y)) ∙ count_append p (peers_of (asked_for y).tried) (peers_of (option_to_list (asked_for y).stream)) in
-            let later = ap (λ (t : List StreamValue). count_by p (peers_of t)) leaves ∙ ap (count_by p) (map-append peer_of rest.left own) ∙ count_append p (peers_of rest.left) (peers_of own) in
-            let its = ap (count_by p) (left_peers (asked_for y) o (asked_for y).stream refl) in
-            omega (arith, before, net, changed, alike, total, last, both, later, its);
+            let kept = kept_count p rest.kept kept' stays stay in
+            let later = left_count p rest.left left' gone leaves in
+            let its = parts p in
+            omega (arith, before, net, changed, alike, total, last, both, kept, later, its);
         closed = λ p.
             let of_ended : EndedValue → ℕ = λ (e : EndedValue). count_by p (streams_before e.asking) in
             let before = g.closed p in
             let net = closes.each p in
-            let parts = count_append p (map closed_stream own) rest.closing in
+            let both = count_append p (map closed_stream gone) rest.closing in
             let changed = sum_of_put (left_of p) refl old new i (Some x) None was put in
             let alike = same_left p (asked_for x) (asked_for y) same in
             let total = ap (sum_by of_ended) ends ∙ sum_by-append of_ended (map shown ended) (shown (y, o) ∷ []) in
             let last = sum_by-cons of_ended (shown (y, o)) [] in
-            let later = ap (λ (t : List StreamValue). count_by p (map closed_stream t)) leaves ∙ ap (count_by p) (map-append closed_stream rest.left own) ∙ count_append p (map closed_stream rest.left) (map closed_stream own) in
-            omega (arith, before, net, parts, changed, alike, total, last, later);
+            let later = closed_count p rest.left left' gone leaves in
+            omega (arith, before, net, both, changed, alike, total, last, later);
         dealt = g.dealt;
         asked = closes.asked ∙ g.asked;
         found = g.found;
         awaited = g.awaited;
       }
 
+  -- one goes over a stream that was kept
+  pub again_accounts : (a : NetworkValue) (x y : AskingState) (s : StreamValue) (kept' : List KeptValue) → slice_index_or old i None ≡ Some x → Put old new i (Some y) → GoesOverAgain s (asked_for x) (asked_for y)
+      → ((p : SocketAddr → Bool) → count_by p (peers_of (kept_streams kept')) + count_by p (s.peer ∷ []) ≡ count_by p (peers_of (kept_streams rest.kept)))
+      → (u : Account) → AccountsFor u a (whole_loop manner l old ended rest) → AccountsFor u a (whole_loop manner l new ended (beside kept' rest.left rest.closing rest.looked_up rest.waits))
+  again_accounts a x y s kept' was put again parts u f = record {
+    told = f.told;
+    made = λ p.
+        let before = f.made p in
+        let changed = sum_of_put (made_of p) refl old new i (Some x) (Some y) was put in
+        let its = parts p in
+        let alone : made_of p (Some (asked_for x)) ≡ count_by p (peers_of (asked_for x).tried) =
+        ap (count_by p) (peers_are (asked_for x) ∙ ap (λ (o : Option StreamValue). peers_of (asked_for x).tried ++ peers_of (option_to_list o)) again.alone ∙ append-nil _) in
+        let peers : made_of p (Some (asked_for y)) ≡ count_by p (peers_of (asked_for x).tried) + count_by p (s.peer ∷ []) =
+        ap (count_by p) (peers_are (asked_for y) ∙ ap (λ (t : List StreamValue). peers_of t ++ peers_of (option_to_list (asked_for y).stream)) again.tried
+        ∙ ap (λ (o : Option StreamValue). peers_of (asked_for x).tried ++ peers_of (option_to_list o)) again.stream
+        ∙ ap (λ (q : SocketAddr). peers_of (asked_for x).tried ++ q ∷ []) again.peer)
+        ∙ count_append p (peers_of (asked_for x).tried) (s.peer ∷ []) in
+        omega (arith, before, changed, its, alone, peers);
+    closed = λ p.
+        let before = f.closed p in
+        let changed = sum_of_put (left_of p) refl old new i (Some x) (Some y) was put in
+        let same : left_of p (Some (asked_for y)) ≡ left_of p (Some (asked_for x)) = ap (λ (t : List StreamValue). count_by p (map closed_stream t)) again.tried in
+        omega (arith, before, changed, same);
+    dealt = f.dealt;
+    asked = f.asked;
+    found = f.found;
+    awaited = f.awaited;
+  }
+
+-- streams that were kept are no more, and were closed
+pub kept_accounts : (manner : Manner) (l : LoopValue) (asking : List (Option AskingState)) (ended : List (AskingState × Option Outcome)) (rest : Beside) (kept' : List KeptValue) (left' gone : List StreamValue) (a b : NetworkValue)
+    → left' ≡ rest.left ++ gone → ((p : SocketAddr → Bool) → count_by p (peers_of (kept_streams kept')) + count_by p (peers_of gone) ≡ count_by p (peers_of (kept_streams rest.kept)))
+    → b ≡ record a { closed = a.closed ++ map closed_stream gone }
+    → (u : Account) → AccountsFor u a (whole_loop manner l asking ended rest) → AccountsFor u b (whole_loop manner l asking ended (beside kept' left' rest.closing rest.looked_up rest.waits))
+kept_accounts manner l asking ended rest kept' left' gone a b leaves parts net u f = record {
+  told = ap (λ (v : NetworkValue). v.told) net ∙ f.told;
+  made = λ p.
+      let before = f.made p in
+      let same = ap (λ (v : NetworkValue). count_by p v.made) net in
+      let its = parts p in
+      let later = left_count p rest.left left' gone leaves in
+      omega (arith, before, same, its, later);
+  closed = λ p.
+      let before = f.closed p in
+      let now = ap (λ (v : NetworkValue). count_by p v.closed) net ∙ count_append p a.closed (map closed_stream gone) in
+      let later = closed_count p rest.left left' gone leaves in
+      omega (arith, before, now, later);
+  dealt = f.dealt;
+  asked = ap (λ (v : NetworkValue). v.asked) net ∙ f.asked;
+  found = f.found;
+  awaited = f.awaited;
+}
+
 -- streams that waited were closed
-pub closes_accounts : (framing : Framing) (l : LoopValue) (asking : List (Option AskingState)) (ended : List (AskingState × Option Outcome)) (rest : Beside) (closing : List ClosedValue) (a b : NetworkValue) → ClosesFrom a b rest.closing closing
-    → (u : Account) → AccountsFor u a (whole_loop framing l asking ended rest) → AccountsFor u b (whole_loop framing l asking ended (beside rest.left closing rest.looked_up rest.waits))
-closes_accounts framing l asking ended rest closing a b closes u f = record {
+pub closes_accounts : (manner : Manner) (l : LoopValue) (asking : List (Option AskingState)) (ended : List (AskingState × Option Outcome)) (rest : Beside) (closing : List ClosedValue) (a b : NetworkValue) → ClosesFrom a b rest.closing closing
+    → (u : Account) → AccountsFor u a (whole_loop manner l asking ended rest) → AccountsFor u b (whole_loop manner l asking ended (beside rest.kept rest.left closing rest.looked_up rest.waits))
+closes_accounts manner l asking ended rest closing a b closes u f = record {
   told = closes.told ∙ f.told;
   made = λ p. ap (count_by p) closes.made ∙ f.made p;
   closed = λ p.
@@ -366,10 +440,10 @@ closes_accounts framing l asking ended rest closing a b closes u f = record {
 }
 
 -- a name was looked up, for which nobody waits any more
-pub found_accounts : (framing : Framing) (l : LoopValue) (asking : List (Option AskingState)) (ended : List (AskingState × Option Outcome)) (rest : Beside) (later : List FoundValue) (waits : List (List ℕ)) (one : FoundValue) (a : NetworkValue)
+pub found_accounts : (manner : Manner) (l : LoopValue) (asking : List (Option AskingState)) (ended : List (AskingState × Option Outcome)) (rest : Beside) (later : List FoundValue) (waits : List (List ℕ)) (one : FoundValue) (a : NetworkValue)
     → later ≡ rest.looked_up ++ one ∷ [] → Leaves one.name rest.waits waits
-    → AccountsOn 0 (one ∷ []) a a (whole_loop framing l asking ended rest) (whole_loop framing l asking ended (beside rest.left rest.closing later waits))
-found_accounts framing l asking ended rest later waits one a is left u f = (
+    → AccountsOn 0 (one ∷ []) a a (whole_loop manner l asking ended rest) (whole_loop manner l asking ended (beside rest.kept rest.left rest.closing later waits))
+found_accounts manner l asking ended rest later waits one a is left u f = (
   Found one ∷ [],
   refl,
   record {
@@ -384,12 +458,12 @@ found_accounts framing l asking ended rest later waits one a is left u f = (
 )
 
 -- a name was asked for, or none
-module _ (framing : Framing) (l : LoopValue) (asking : List (Option AskingState)) (ended : List (AskingState × Option Outcome)) (rest : Beside) (waits : List (List ℕ)) (name : List ℕ) (a b : NetworkValue) where
+module _ (manner : Manner) (l : LoopValue) (asking : List (Option AskingState)) (ended : List (AskingState × Option Outcome)) (rest : Beside) (waits : List (List ℕ)) (name : List ℕ) (a b : NetworkValue) where
   abbrev unasked : WholeLoop
-  unasked = whole_loop framing l asking ended rest
+  unasked = whole_loop manner l asking ended rest
 
   abbrev asked_for_name : WholeLoop
-  asked_for_name = whole_loop framing l asking ended (beside rest.left rest.closing rest.looked_up waits)
+  asked_for_name = whole_loop manner l asking ended (beside rest.kept rest.left rest.closing rest.looked_up waits)
 
   none_asked : (b ≡ a) × AreSame rest.waits waits → AccountsOn 0 [] a b unasked asked_for_name
   none_asked (net, same) = done_alone unasked asked_for_name (λ u f. subst (λ (n : NetworkValue). AccountsFor u n asked_for_name) (sym net) record {
@@ -429,7 +503,7 @@ pub first_accounts : (w : WholeLoop) → StartsLoop w → (a : NetworkValue) →
 first_accounts w s a = record {
   told = sym (ap (λ (t : List ℕ). a.told ++ t) s.side.none_told ∙ append-nil a.told);
   made = λ p.
-      let none : count_made p w ≡ 0 = rw (s.none_asked, s.none_ended, s.none_left) refl in
+      let none : count_made p w ≡ 0 = rw (s.none_asked, s.none_ended, s.none_kept, s.none_left) refl in
       omega (arith, none);
   closed = λ p.
       let none : count_left p w ≡ 0 = rw (s.side.none_gone, s.side.none_unserved, s.none_asked, s.none_ended, s.none_left) refl in

@@ -1,5 +1,5 @@
 -- What each step makes of the jobs that are asked for, and of those that ended.
-use Rattle.gateway_loop.proofs.Words.{◌≤◌, AreFoundFor, AreOfName, Beside, Contains, Contains-append_left, All-weaker, FoundValue, addresses_value, beside, take, true, ◌≡◌, ◌≢◌, ◌⊎◌, ℕ, zero, suc, ◌+◌, Bool, false, cond, List, [], ◌∷◌, ◌++◌, All, map, Option, None, Some, refl, sym, ap, ◌∙◌, subst, arith, append_assoc, inl, inr, ⊎_elim, count_by, sum_by, option_map, slice_index_or, option_map_or, cases_eq, map-append, All-push, sum_by-append, sum_by-cons, Outcome, JobValue, IsPrefixOf, HandedJob, Slab, Updates, AskingValue, BeginsRequest, EndedValue, IsFair, StreamValue, ended_value, Account, AccountsFor, AccountsOn, Admits, ClosedValue, IsStill, NetworkValue, LoopValue, Continues, HasTicked, AsksFairly, AsksOn, ContinuesLoop, GivesUpStream, HasEndedSince, KeepsStream, WholeLoop, asked_at, count_asked, AskingState, asked_for, HandsNothing, Onward, Goes, AreFramed, IsFramed, whole_loop, Framing, SocketAddr, prefix-refl, prefix-trans, peers_of, stream_value, length, All-nil, streams_for, option_to_list}
+use Rattle.gateway_loop.proofs.Words.{◌≤◌, AreFoundFor, AreOfName, Beside, Contains, Contains-append_left, All-weaker, FoundValue, addresses_value, beside, take, true, ◌≡◌, ◌≢◌, ◌⊎◌, ℕ, zero, suc, ◌+◌, Bool, false, cond, List, [], ◌∷◌, ◌++◌, All, map, Option, None, Some, refl, sym, ap, ◌∙◌, subst, arith, append_assoc, inl, inr, ⊎_elim, count_by, sum_by, option_map, slice_index_or, option_map_or, cases_eq, map-append, All-push, sum_by-append, sum_by-cons, Outcome, JobValue, IsPrefixOf, HandedJob, Slab, Updates, AskingValue, BeginsRequest, EndedValue, IsFair, StreamValue, ended_value, Account, AccountsFor, AccountsOn, Admits, ClosedValue, IsStill, NetworkValue, LoopValue, Continues, HasTicked, AsksFairly, AsksOn, ContinuesLoop, GivesUpStream, HasEndedSince, KeepsStream, WholeLoop, asked_at, count_asked, AskingState, asked_for, HandsNothing, Onward, Goes, AreMannered, IsMannered, whole_loop, Manner, SocketAddr, prefix-refl, prefix-trans, peers_of, stream_value, length, All-nil, streams_for, option_to_list, KeptValue, AreShared, ShareValue, count_own, count_shares, count_under_way, kept_streams, IsKept, IsLeft, IsNew, closed_stream, stream_value}
 use Rattle.std.proofs.lemmas.Bool.Decides.{nat_tests}
 use Rattle.std.proofs.lemmas.List.{append-nil}
 use Rattle.std.proofs.lemmas.Slice.Eq.{bytes_eq-Decides}
@@ -7,15 +7,14 @@ use Rattle.std.specs.Prelude.{◌&&◌, if◌then◌else◌, not}
 use Rattle.std.specs.Str.{bytes_eq}
 use Rattle.gateway_loop.specs.Loop.{found_asking}
 use Rattle.branch_asking.specs.Asking.{Finds, got_by}
-use Rattle.branch_asking.specs.Streams.{Connects, HasStreamsOf, left_by}
-use Rattle.loop_model.specs.Streams.{ShareValue, closed_stream, share_value}
-use Rattle.std.proofs.lemmas.List.Elements.{All-append, All-pop}
-use Rattle.std.specs.Prelude.{IfSome}
-use Rattle.loop_model.specs.Whole.{AreShared, IsSameIfThere, IsSameStream, count_own, count_shares, share_of}
+use Rattle.branch_asking.specs.Streams.{Connects, GoesOver, GoesOverAgain, HasStreamsOf, without_turns}
+use Rattle.std.proofs.lemmas.List.Elements.{All-append, All-head}
+use Rattle.loop_model.specs.Whole.{IsSameIfThere, IsSameStream}
+use Rattle.gateway_loop.proofs.KeptLemmas.{Moves, Parted, shares_append}
 use Rattle.gateway_loop.specs.Clients.{IsTold, LetsGo, TakesIn}
 use Rattle.gateway_loop.specs.Closing.{ClosesFrom}
 use Rattle.gateway_loop.specs.Names.{AsksFor, Leaves}
-use Rattle.gateway_loop.proofs.AccountLemmas.{admits_accounts, asks_accounts, begin_accounts, closes_accounts, done_alone, done_then, found_accounts, connects_accounts, end_accounts, goes_accounts, put_accounts, still_accounts, told_accounts}
+use Rattle.gateway_loop.proofs.AccountLemmas.{admits_accounts, again_accounts, asks_accounts, begin_accounts, closes_accounts, done_alone, done_then, found_accounts, connects_accounts, end_accounts, goes_accounts, kept_accounts, put_accounts, still_accounts, sum_of_put, told_accounts}
 use Rattle.gateway_loop.proofs.GrowLemmas as grow
 use Rattle.gateway_loop.proofs.Places.{Put}
 use Rattle.gateway_loop.proofs.SumLemmas.{sum_map, sum_put}
@@ -125,11 +124,11 @@ module _ (u v w : WholeLoop) (y : AskingValue) where
       }
 
 pub continues_same : (v : WholeLoop) → ContinuesLoop v v
-continues_same v = record { framing = refl; side = grow.continues_same v.side; asking = λ i x is. (x, inl is, asks_same x); ended = prefix-refl v.ended; left = prefix-refl v.left; looked_up = prefix-refl v.looked_up }
+continues_same v = record { manner = refl; side = grow.continues_same v.side; asking = λ i x is. (x, inl is, asks_same x); ended = prefix-refl v.ended; left = prefix-refl v.left; looked_up = prefix-refl v.looked_up }
 
 continues_then : (u v w : WholeLoop) → ContinuesLoop u v → ContinuesLoop v w → ContinuesLoop u w
 continues_then u v w a b = record {
-  framing = b.framing ∙ a.framing;
+  manner = b.manner ∙ a.manner;
   side = grow.continues_then u.side v.side w.side a.side b.side;
   asking = λ i x is.
       let s = a.asking i x is in
@@ -210,72 +209,72 @@ none_asked : (b : AskingValue) → None ≡ Some b → ⊥
 none_asked b e = cc
 
 -- the clients' side went on, and the exchanges are the same
-continues_side : (framing : Framing) (asking : List (Option AskingState)) (ended : List (AskingState × Option Outcome)) (rest : Beside) (l m : LoopValue) → Continues l m
-    → ContinuesLoop (whole_loop framing l asking ended rest) (whole_loop framing m asking ended rest)
-continues_side framing asking ended rest l m c = record { framing = refl; side = c; asking = λ i x is. (x, inl is, asks_same x); ended = prefix-refl (whole_loop framing l asking ended rest).ended; left = prefix-refl rest.left; looked_up = prefix-refl rest.looked_up }
+continues_side : (manner : Manner) (asking : List (Option AskingState)) (ended : List (AskingState × Option Outcome)) (rest : Beside) (l m : LoopValue) → Continues l m
+    → ContinuesLoop (whole_loop manner l asking ended rest) (whole_loop manner m asking ended rest)
+continues_side manner asking ended rest l m c = record { manner = refl; side = c; asking = λ i x is. (x, inl is, asks_same x); ended = prefix-refl (whole_loop manner l asking ended rest).ended; left = prefix-refl rest.left; looked_up = prefix-refl rest.looked_up }
 
-module _ (framing : Framing) (asking : List (Option AskingState)) (ended : List (AskingState × Option Outcome)) (rest : Beside) (l m : LoopValue) where
+module _ (manner : Manner) (asking : List (Option AskingState)) (ended : List (AskingState × Option Outcome)) (rest : Beside) (l m : LoopValue) where
   abbrev before : WholeLoop
-  before = whole_loop framing l asking ended rest
+  before = whole_loop manner l asking ended rest
 
   abbrev after : WholeLoop
-  after = whole_loop framing m asking ended rest
+  after = whole_loop manner m asking ended rest
 
   goes_side : {a b : NetworkValue} → Onward l m → ((u : Account) → AccountsFor u a before → AccountsFor u b after) → Goes a b before after
-  goes_side {a} {b} o accounts = moves before after (continues_side framing asking ended rest l m (o.on l (grow.continues_same l))) accounts o.drained
+  goes_side {a} {b} o accounts = moves before after (continues_side manner asking ended rest l m (o.on l (grow.continues_same l))) accounts o.drained
 
   pub goes_still : {a : NetworkValue} → Onward l m → IsStill l m → Goes a a before after
-  goes_still {a} o s = goes_side o (still_accounts framing asking ended rest l m a s)
+  goes_still {a} o s = goes_side o (still_accounts manner asking ended rest l m a s)
 
   pub goes_told : {a b : NetworkValue} → Onward l m → IsTold a b l m → Goes a b before after
-  goes_told {a} {b} o s = goes_side o (told_accounts framing asking ended rest l m a b s)
+  goes_told {a} {b} o s = goes_side o (told_accounts manner asking ended rest l m a b s)
 
   pub goes_gone : {a b : NetworkValue} → Onward l m → LetsGo a b l m → Goes a b before after
-  goes_gone {a} {b} o s = goes_side o (goes_accounts framing asking ended rest l m a b s)
+  goes_gone {a} {b} o s = goes_side o (goes_accounts manner asking ended rest l m a b s)
 
   pub admits_one : {a b : NetworkValue} → Onward l m → TakesIn a b l m → Admits 1 [] a b before after
   admits_one {a} {b} o s = record {
-    on = λ u c. continues_then u before after c (continues_side framing asking ended rest l m (o.on l (grow.continues_same l)));
-    accounts = admits_accounts framing asking ended rest l m a b s;
+    on = λ u c. continues_then u before after c (continues_side manner asking ended rest l m (o.on l (grow.continues_same l)));
+    accounts = admits_accounts manner asking ended rest l m a b s;
     drained = o.drained;
   }
 
   -- .. it was told to drain
   pub drains_so : Continues l m → IsStill l m → (ContinuesLoop before after) × ((a : NetworkValue) → AccountsOn 0 [] a a before after)
-  drains_so c s = (continues_side framing asking ended rest l m c, λ a. done_alone before after (still_accounts framing asking ended rest l m a s))
+  drains_so c s = (continues_side manner asking ended rest l m c, λ a. done_alone before after (still_accounts manner asking ended rest l m a s))
 
 -- streams that waited were closed
-pub goes_closes : {a b : NetworkValue} (framing : Framing) (l : LoopValue) (asking : List (Option AskingState)) (ended : List (AskingState × Option Outcome)) (rest : Beside) (closing : List ClosedValue) → ClosesFrom a b rest.closing closing
-    → Goes a b (whole_loop framing l asking ended rest) (whole_loop framing l asking ended (beside rest.left closing rest.looked_up rest.waits))
-goes_closes {a} {b} framing l asking ended rest closing c =
-    moves (whole_loop framing l asking ended rest) (whole_loop framing l asking ended (beside rest.left closing rest.looked_up rest.waits))
-    record { framing = refl; side = grow.continues_same l; asking = λ i x is. (x, inl is, asks_same x); ended = prefix-refl (whole_loop framing l asking ended rest).ended; left = prefix-refl rest.left; looked_up = prefix-refl rest.looked_up }
-    (closes_accounts framing l asking ended rest closing a b c) refl
+pub goes_closes : {a b : NetworkValue} (manner : Manner) (l : LoopValue) (asking : List (Option AskingState)) (ended : List (AskingState × Option Outcome)) (rest : Beside) (closing : List ClosedValue) → ClosesFrom a b rest.closing closing
+    → Goes a b (whole_loop manner l asking ended rest) (whole_loop manner l asking ended (beside rest.kept rest.left closing rest.looked_up rest.waits))
+goes_closes {a} {b} manner l asking ended rest closing c =
+    moves (whole_loop manner l asking ended rest) (whole_loop manner l asking ended (beside rest.kept rest.left closing rest.looked_up rest.waits))
+    record { manner = refl; side = grow.continues_same l; asking = λ i x is. (x, inl is, asks_same x); ended = prefix-refl (whole_loop manner l asking ended rest).ended; left = prefix-refl rest.left; looked_up = prefix-refl rest.looked_up }
+    (closes_accounts manner l asking ended rest closing a b c) refl
 
 -- what the exchanges are beside is another
-continues_beside : (framing : Framing) (l : LoopValue) (asking : List (Option AskingState)) (ended : List (AskingState × Option Outcome)) (rest later : Beside) → IsPrefixOf rest.left later.left → IsPrefixOf rest.looked_up later.looked_up
-    → ContinuesLoop (whole_loop framing l asking ended rest) (whole_loop framing l asking ended later)
-continues_beside framing l asking ended rest later stays more =
-    record { framing = refl; side = grow.continues_same l; asking = λ i x at. (x, inl at, asks_same x); ended = prefix-refl (whole_loop framing l asking ended rest).ended; left = stays; looked_up = more }
+continues_beside : (manner : Manner) (l : LoopValue) (asking : List (Option AskingState)) (ended : List (AskingState × Option Outcome)) (rest later : Beside) → IsPrefixOf rest.left later.left → IsPrefixOf rest.looked_up later.looked_up
+    → ContinuesLoop (whole_loop manner l asking ended rest) (whole_loop manner l asking ended later)
+continues_beside manner l asking ended rest later stays more =
+    record { manner = refl; side = grow.continues_same l; asking = λ i x at. (x, inl at, asks_same x); ended = prefix-refl (whole_loop manner l asking ended rest).ended; left = stays; looked_up = more }
 
 -- a name was looked up, for which nobody waits any more
-pub admits_found : (framing : Framing) (l : LoopValue) (asking : List (Option AskingState)) (ended : List (AskingState × Option Outcome)) (rest : Beside) (later : List FoundValue) (waits : List (List ℕ)) (one : FoundValue)
+pub admits_found : (manner : Manner) (l : LoopValue) (asking : List (Option AskingState)) (ended : List (AskingState × Option Outcome)) (rest : Beside) (later : List FoundValue) (waits : List (List ℕ)) (one : FoundValue)
     → later ≡ rest.looked_up ++ one ∷ [] → Leaves one.name rest.waits waits
-    → (a : NetworkValue) → Admits 0 (one ∷ []) a a (whole_loop framing l asking ended rest) (whole_loop framing l asking ended (beside rest.left rest.closing later waits))
-admits_found framing l asking ended rest later waits one is left a = record {
-  on = λ u c. continues_then u (whole_loop framing l asking ended rest) (whole_loop framing l asking ended (beside rest.left rest.closing later waits)) c
-      (continues_beside framing l asking ended rest (beside rest.left rest.closing later waits) (prefix-refl rest.left) (one ∷ [], is));
-  accounts = found_accounts framing l asking ended rest later waits one a is left;
+    → (a : NetworkValue) → Admits 0 (one ∷ []) a a (whole_loop manner l asking ended rest) (whole_loop manner l asking ended (beside rest.kept rest.left rest.closing later waits))
+admits_found manner l asking ended rest later waits one is left a = record {
+  on = λ u c. continues_then u (whole_loop manner l asking ended rest) (whole_loop manner l asking ended (beside rest.kept rest.left rest.closing later waits)) c
+      (continues_beside manner l asking ended rest (beside rest.kept rest.left rest.closing later waits) (prefix-refl rest.left) (one ∷ [], is));
+  accounts = found_accounts manner l asking ended rest later waits one a is left;
   drained = refl;
 }
 
 -- a name was asked for, or none
-pub goes_asks : {a b : NetworkValue} (framing : Framing) (l : LoopValue) (asking : List (Option AskingState)) (ended : List (AskingState × Option Outcome)) (rest : Beside) (waits : List (List ℕ)) (name : List ℕ) → AsksFor name a b rest.waits waits
-    → Goes a b (whole_loop framing l asking ended rest) (whole_loop framing l asking ended (beside rest.left rest.closing rest.looked_up waits))
-goes_asks {a} {b} framing l asking ended rest waits name asks = record {
-  on = λ u c. continues_then u (whole_loop framing l asking ended rest) (whole_loop framing l asking ended (beside rest.left rest.closing rest.looked_up waits)) c
-      (continues_beside framing l asking ended rest (beside rest.left rest.closing rest.looked_up waits) (prefix-refl rest.left) (prefix-refl rest.looked_up));
-  accounts = asks_accounts framing l asking ended rest waits name a b asks;
+pub goes_asks : {a b : NetworkValue} (manner : Manner) (l : LoopValue) (asking : List (Option AskingState)) (ended : List (AskingState × Option Outcome)) (rest : Beside) (waits : List (List ℕ)) (name : List ℕ) → AsksFor name a b rest.waits waits
+    → Goes a b (whole_loop manner l asking ended rest) (whole_loop manner l asking ended (beside rest.kept rest.left rest.closing rest.looked_up waits))
+goes_asks {a} {b} manner l asking ended rest waits name asks = record {
+  on = λ u c. continues_then u (whole_loop manner l asking ended rest) (whole_loop manner l asking ended (beside rest.kept rest.left rest.closing rest.looked_up waits)) c
+      (continues_beside manner l asking ended rest (beside rest.kept rest.left rest.closing rest.looked_up waits) (prefix-refl rest.left) (prefix-refl rest.looked_up));
+  accounts = asks_accounts manner l asking ended rest waits name a b asks;
   drained = refl;
 }
 
@@ -293,10 +292,10 @@ module _ (old new : List (Option AskingState)) (i : ℕ) where
   stands_at : (y : AskingState) (j : ℕ) → Put old new i (Some y) → j ≡ i → asked_at j (map (λ (s : Option AskingState). show_slot s) new) ≡ Some (asked_for y)
   stands_at y j put same = shown_at new j ∙ ap (λ (s : Option AskingState). show_slot s) (ap (λ (n : ℕ). slice_index_or new n None) same ∙ put.here)
 
-  continues_put : (framing : Framing) (v : LoopValue) (ended : List (AskingState × Option Outcome)) (rest : Beside) (x y : AskingState) → slice_index_or old i None ≡ Some x → Put old new i (Some y)
-      → AsksOn (asked_for x) (asked_for y) → ContinuesLoop (whole_loop framing v old ended rest) (whole_loop framing v new ended rest)
-  continues_put framing v ended rest x y was put on = record {
-    framing = refl;
+  continues_put : (manner : Manner) (v : LoopValue) (ended : List (AskingState × Option Outcome)) (rest : Beside) (x y : AskingState) → slice_index_or old i None ≡ Some x → Put old new i (Some y)
+      → AsksOn (asked_for x) (asked_for y) → ContinuesLoop (whole_loop manner v old ended rest) (whole_loop manner v new ended rest)
+  continues_put manner v ended rest x y was put on = record {
+    manner = refl;
     side = grow.continues_same v;
     asking = λ j z is.
         ⊎_elim
@@ -304,51 +303,51 @@ module _ (old new : List (Option AskingState)) (i : ℕ) where
         (asked_for y, inl (stands_at y j put same), subst (λ (t : AskingValue). AsksOn t (asked_for y)) (some_asked (asked_for x) z (stood_at (Some x) j z was same is)) on))
         (λ (other : j ≡ i → ⊥). (z, inl (stays_at (Some y) j z put other is), asks_same z))
         (cases_eq j i);
-    ended = prefix-refl (whole_loop framing v old ended rest).ended;
+    ended = prefix-refl (whole_loop manner v old ended rest).ended;
     left = prefix-refl rest.left;
     looked_up = prefix-refl rest.looked_up;
   }
 
   -- one of them went on over the same streams
-  pub goes_put : (framing : Framing) (v : LoopValue) (ended : List (AskingState × Option Outcome)) (rest : Beside) (x y : AskingState) → slice_index_or old i None ≡ Some x → Put old new i (Some y)
-      → AsksOn (asked_for x) (asked_for y) → HasStreamsOf (asked_for x) (asked_for y) → (a : NetworkValue) → Goes a a (whole_loop framing v old ended rest) (whole_loop framing v new ended rest)
-  goes_put framing v ended rest x y was put on same a =
-      moves (whole_loop framing v old ended rest) (whole_loop framing v new ended rest) (continues_put framing v ended rest x y was put on) (put_accounts framing v v old new ended rest i a x y was put same) refl
+  pub goes_put : (manner : Manner) (v : LoopValue) (ended : List (AskingState × Option Outcome)) (rest : Beside) (x y : AskingState) → slice_index_or old i None ≡ Some x → Put old new i (Some y)
+      → AsksOn (asked_for x) (asked_for y) → HasStreamsOf (asked_for x) (asked_for y) → (a : NetworkValue) → Goes a a (whole_loop manner v old ended rest) (whole_loop manner v new ended rest)
+  goes_put manner v ended rest x y was put on same a =
+      moves (whole_loop manner v old ended rest) (whole_loop manner v new ended rest) (continues_put manner v ended rest x y was put on) (put_accounts manner v v old new ended rest i a x y was put same) refl
 
   -- .. over these or another
-  pub goes_over : {a b : NetworkValue} (framing : Framing) (v : LoopValue) (ended : List (AskingState × Option Outcome)) (rest : Beside) (x y : AskingState) → slice_index_or old i None ≡ Some x → Put old new i (Some y)
-      → AsksOn (asked_for x) (asked_for y) → Connects a b (asked_for x) (asked_for y) → Goes a b (whole_loop framing v old ended rest) (whole_loop framing v new ended rest)
-  goes_over {a} {b} framing v ended rest x y was put on connects =
-      moves (whole_loop framing v old ended rest) (whole_loop framing v new ended rest) (continues_put framing v ended rest x y was put on) (connects_accounts framing v v old new ended rest i a b x y was put connects) refl
+  pub goes_over : {a b : NetworkValue} (manner : Manner) (v : LoopValue) (ended : List (AskingState × Option Outcome)) (rest : Beside) (x y : AskingState) → slice_index_or old i None ≡ Some x → Put old new i (Some y)
+      → AsksOn (asked_for x) (asked_for y) → Connects a b (asked_for x) (asked_for y) → Goes a b (whole_loop manner v old ended rest) (whole_loop manner v new ended rest)
+  goes_over {a} {b} manner v ended rest x y was put on connects =
+      moves (whole_loop manner v old ended rest) (whole_loop manner v new ended rest) (continues_put manner v ended rest x y was put on) (connects_accounts manner v v old new ended rest i a b x y was put connects) refl
 
   -- .. began
-  pub goes_begin : (framing : Framing) (v w : LoopValue) (ended : List (AskingState × Option Outcome)) (rest : Beside) (y : AskingState) → Onward v w → IsStill v w → slice_index_or old i None ≡ None
-      → Put old new i (Some y) → (asked_for y).tried ≡ [] → (asked_for y).stream ≡ None → (a : NetworkValue) → Goes a a (whole_loop framing v old ended rest) (whole_loop framing w new ended rest)
-  goes_begin framing v w ended rest y o still free put none alone a =
-      moves (whole_loop framing v old ended rest) (whole_loop framing w new ended rest) record {
-        framing = refl;
+  pub goes_begin : (manner : Manner) (v w : LoopValue) (ended : List (AskingState × Option Outcome)) (rest : Beside) (y : AskingState) → Onward v w → IsStill v w → slice_index_or old i None ≡ None
+      → Put old new i (Some y) → (asked_for y).tried ≡ [] → (asked_for y).stream ≡ None → (a : NetworkValue) → Goes a a (whole_loop manner v old ended rest) (whole_loop manner w new ended rest)
+  goes_begin manner v w ended rest y o still free put none alone a =
+      moves (whole_loop manner v old ended rest) (whole_loop manner w new ended rest) record {
+        manner = refl;
         side = o.on v (grow.continues_same v);
         asking = λ j z is.
             ⊎_elim
             (λ (same : j ≡ i). absurd (none_asked z (stood_at None j z free same is)))
             (λ (other : j ≡ i → ⊥). (z, inl (stays_at (Some y) j z put other is), asks_same z))
             (cases_eq j i);
-        ended = prefix-refl (whole_loop framing v old ended rest).ended;
+        ended = prefix-refl (whole_loop manner v old ended rest).ended;
         left = prefix-refl rest.left;
         looked_up = prefix-refl rest.looked_up;
       }
-      (begin_accounts framing v w old new ended rest i a y still free put none alone) o.drained
+      (begin_accounts manner v w old new ended rest i a y still free put none alone) o.drained
 
   -- .. ended
-  pub goes_ended : {a b : NetworkValue} (framing : Framing) (v w : LoopValue) (ended ended' : List (AskingState × Option Outcome)) (rest : Beside) (left' : List StreamValue) (closing' : List ClosedValue) (x y : AskingState) (end : Option Outcome) → Onward v w → IsStill v w
+  pub goes_ended : {a b : NetworkValue} (manner : Manner) (v w : LoopValue) (ended ended' : List (AskingState × Option Outcome)) (rest : Beside) (kept' : List KeptValue) (left' gone : List StreamValue) (closing' : List ClosedValue) (x y : AskingState) (end : Option Outcome) → Onward v w → IsStill v w
       → slice_index_or old i None ≡ Some x → Put old new i None → ended' ≡ ended ++ (y, end) ∷ [] → AsksOn (asked_for x) (asked_for y) → HasStreamsOf (asked_for x) (asked_for y)
-      → left' ≡ rest.left ++ left_by (asked_for y) end → ClosesFrom a b (map closed_stream (left_by (asked_for y) end) ++ rest.closing) closing'
-      → Goes a b (whole_loop framing v old ended rest) (whole_loop framing w new ended' (beside left' closing' rest.looked_up rest.waits))
-  goes_ended {a} {b} framing v w ended ended' rest left' closing' x y end o still was put is_now on same leaves closes =
+      → Parted manner (asked_for y) end gone rest.kept kept' → left' ≡ rest.left ++ gone → ClosesFrom a b (map closed_stream gone ++ rest.closing) closing'
+      → Goes a b (whole_loop manner v old ended rest) (whole_loop manner w new ended' (beside kept' left' closing' rest.looked_up rest.waits))
+  goes_ended {a} {b} manner v w ended ended' rest kept' left' gone closing' x y end o still was put is_now on same parted leaves closes =
       let show : AskingState × Option Outcome → EndedValue = λ (d : AskingState × Option Outcome). ended_value (asked_for d.0) d.1 in
       let more : map show ended' ≡ map show ended ++ show (y, end) ∷ [] = ap (map show) is_now ∙ map-append show ended ((y, end) ∷ []) in
-      moves (whole_loop framing v old ended rest) (whole_loop framing w new ended' (beside left' closing' rest.looked_up rest.waits)) record {
-        framing = refl;
+      moves (whole_loop manner v old ended rest) (whole_loop manner w new ended' (beside kept' left' closing' rest.looked_up rest.waits)) record {
+        manner = refl;
         side = o.on v (grow.continues_same v);
         asking = λ j z is.
             ⊎_elim
@@ -357,10 +356,48 @@ module _ (old new : List (Option AskingState)) (i : ℕ) where
             (λ (other : j ≡ i → ⊥). (z, inl (stays_at None j z put other is), asks_same z))
             (cases_eq j i);
         ended = (show (y, end) ∷ [], more);
-        left = (left_by (asked_for y) end, leaves);
+        left = (gone, leaves);
         looked_up = prefix-refl rest.looked_up;
       }
-      (end_accounts framing v w old new ended rest i a b x y end ended' left' closing' still was put same is_now leaves closes) o.drained
+      (end_accounts manner v w old new ended rest i a b x y end ended' kept' left' closing' parted.stays gone still was put same is_now parted.kept_are leaves parted.parts.peers closes) o.drained
+
+  -- .. goes over a stream that was kept
+  pub goes_again : (manner : Manner) (v : LoopValue) (ended : List (AskingState × Option Outcome)) (rest : Beside) (kept' : List KeptValue) (x y : AskingState) (k : KeptValue) (s : StreamValue) → slice_index_or old i None ≡ Some x → Put old new i (Some y)
+      → AsksOn (asked_for x) (asked_for y) → s ≡ k.stream → GoesOverAgain s (asked_for x) (asked_for y) → Moves manner rest.kept kept' (k.stream ∷ [])
+      → (a : NetworkValue) → Goes a a (whole_loop manner v old ended rest) (whole_loop manner v new ended (beside kept' rest.left rest.closing rest.looked_up rest.waits))
+  goes_again manner v ended rest kept' x y k s was put on is again moved a =
+      moves (whole_loop manner v old ended rest) (whole_loop manner v new ended (beside kept' rest.left rest.closing rest.looked_up rest.waits))
+      record {
+        manner = refl;
+        side = grow.continues_same v;
+        asking = λ j z is.
+            ⊎_elim
+            (λ (same : j ≡ i).
+            (asked_for y, inl (stands_at y j put same), subst (λ (t : AskingValue). AsksOn t (asked_for y)) (some_asked (asked_for x) z (stood_at (Some x) j z was same is)) on))
+            (λ (other : j ≡ i → ⊥). (z, inl (stays_at (Some y) j z put other is), asks_same z))
+            (cases_eq j i);
+        ended = prefix-refl (whole_loop manner v old ended rest).ended;
+        left = prefix-refl rest.left;
+        looked_up = prefix-refl rest.looked_up;
+      }
+      (again_accounts manner v v old new ended rest i a x y s kept' was put again
+      (λ p. let its = moved.peers p in let same = ap (λ (t : StreamValue). count_by p (t.peer ∷ [])) is in omega (arith, its, same)))
+      refl
+
+-- streams that were kept are no more, and were closed
+pub goes_kept : {a b : NetworkValue} (manner : Manner) (l : LoopValue) (asking : List (Option AskingState)) (ended : List (AskingState × Option Outcome)) (rest : Beside) (kept' : List KeptValue) (left' gone : List StreamValue)
+    → Moves manner rest.kept kept' gone → left' ≡ rest.left ++ gone → b ≡ record a { closed = a.closed ++ map closed_stream gone }
+    → Goes a b (whole_loop manner l asking ended rest) (whole_loop manner l asking ended (beside kept' left' rest.closing rest.looked_up rest.waits))
+goes_kept {a} {b} manner l asking ended rest kept' left' gone moved leaves net =
+    moves (whole_loop manner l asking ended rest) (whole_loop manner l asking ended (beside kept' left' rest.closing rest.looked_up rest.waits))
+    (continues_beside manner l asking ended rest (beside kept' left' rest.closing rest.looked_up rest.waits) (gone, leaves) (prefix-refl rest.looked_up))
+    (kept_accounts manner l asking ended rest kept' left' gone a b leaves moved.peers net) refl
+
+-- .. and none was closed
+pub goes_unkept : {a : NetworkValue} (manner : Manner) (l : LoopValue) (asking : List (Option AskingState)) (ended : List (AskingState × Option Outcome)) (rest : Beside) (kept' : List KeptValue)
+    → Moves manner rest.kept kept' [] → Goes a a (whole_loop manner l asking ended rest) (whole_loop manner l asking ended (beside kept' rest.left rest.closing rest.looked_up rest.waits))
+goes_unkept {a} manner l asking ended rest kept' moved =
+    goes_kept {a = a} {b = a} manner l asking ended rest kept' rest.left [] moved (sym (append-nil rest.left)) (ap (λ (c : List ClosedValue). record a { closed = c }) (sym (append-nil a.closed)))
 
 pub ticked_on : (u v w : WholeLoop) → HasTicked u.side v.side → ContinuesLoop v w → HasTicked u.side w.side
 ticked_on u v w t c =
@@ -393,17 +430,21 @@ count_put p old new i o n was put = grind (arith, nat_tests, sum_put)
 -- ---- what is kept
 
 -- the exchanges are the same
-pub keeps_asking : (v w : WholeLoop) → w.framing ≡ v.framing → HandsNothing v.side w.side → w.asking ≡ v.asking → w.ended ≡ v.ended → w.left ≡ v.left → w.looked_up ≡ v.looked_up → AsksFairly v → AsksFairly w
-keeps_asking v w framing none asking ended left looked a = record {
+pub keeps_asking : (v w : WholeLoop) → w.manner ≡ v.manner → HandsNothing v.side w.side → w.asking ≡ v.asking → w.ended ≡ v.ended → w.kept ≡ v.kept → w.left ≡ v.left → w.looked_up ≡ v.looked_up → AsksFairly v → AsksFairly w
+keeps_asking v w manner none asking ended kept left looked a = record {
   results = none.no_result ∙ a.results ∙ ap (map (λ (e : EndedValue). (e.asking.job, e.outcome))) (sym ended);
-  fair = subst (λ (l : List EndedValue). All (IsFair w.framing) l) (sym ended) (subst (λ (f : Framing). All (IsFair f) v.ended) (sym framing) a.fair);
-  begun = λ i x is. a.begun i x (ap (λ l. asked_at i l) (sym asking) ∙ is);
+  fair = subst (λ (l : List EndedValue). All (IsFair w.manner) l) (sym ended) (subst (λ (f : Manner). All (IsFair f) v.ended) (sym manner) a.fair);
+  begun = λ i x is. subst (λ (f : Manner). BeginsRequest f x) (sym manner) (a.begun i x (ap (λ l. asked_at i l) (sym asking) ∙ is));
   found = λ i x is. subst (λ (l : List FoundValue). AreOfName x.job.address x.found l) (sym looked) (a.found i x (ap (λ l. asked_at i l) (sym asking) ∙ is));
   found_ended = subst (λ (l : List EndedValue). All (λ (e : EndedValue). AreOfName e.asking.job.address e.asking.found w.looked_up) l) (sym ended)
       (subst (λ (l : List FoundValue). All (λ (e : EndedValue). AreOfName e.asking.job.address e.asking.found l) v.ended) (sym looked) a.found_ended);
   jobs = λ p. ap (count_by p) none.no_job ∙ a.jobs p ∙ ap (λ l. count_by (λ (e : EndedValue). p e.asking.job) l + count_asked p v.asking) (sym ended)
       ∙ ap (λ l. count_by (λ (e : EndedValue). p e.asking.job) w.ended + count_asked p l) (sym asking);
-  shared = subst (λ (l : List EndedValue). AreShared l w.left) (sym ended) (subst (λ (l : List StreamValue). AreShared v.ended l) (sym left) a.shared);
+  shared = subst (λ (l : List StreamValue). AreShared w.manner w.asking w.ended w.kept l) (sym left)
+      (subst (λ (l : List KeptValue). AreShared w.manner w.asking w.ended l v.left) (sym kept)
+      (subst (λ (l : List EndedValue). AreShared w.manner w.asking l v.kept v.left) (sym ended)
+      (subst (λ (l : List (Option AskingValue)). AreShared w.manner l v.ended v.kept v.left) (sym asking)
+      (subst (λ (f : Manner). AreShared f v.asking v.ended v.kept v.left) (sym manner) a.shared))));
 }
 
 -- where one place changed, each is so if what stands there is
@@ -439,13 +480,13 @@ named_found looked x y one more own finds there first named =
     by_it its true = named
     by_it its false = inr record { one = one; there = there; its_name = sym its; first = first }
 
-begun_by : (y : AskingState) → BeginsRequest (asked_for y) → (x : AskingValue) → show_slot (Some y) ≡ Some x → BeginsRequest x
-begun_by y begun x is = subst (λ (t : AskingValue). BeginsRequest t) (some_asked (asked_for y) x is) begun
+begun_by : (manner : Manner) (y : AskingState) → BeginsRequest manner (asked_for y) → (x : AskingValue) → show_slot (Some y) ≡ Some x → BeginsRequest manner x
+begun_by manner y begun x is = subst (λ (t : AskingValue). BeginsRequest manner t) (some_asked (asked_for y) x is) begun
 
--- .. and the reply to each may be framed so
-framed_put : (framing : Framing) (old new : List (Option AskingState)) (i : ℕ) (o : Option AskingState) → Put old new i o
-    → ((x : AskingState) → o ≡ Some x → IsFramed framing x) → AreFramed framing old → AreFramed framing new
-framed_put framing old new i o put own before j x is =
+-- .. and the reply to each may be mannered so
+mannered_put : (manner : Manner) (old new : List (Option AskingState)) (i : ℕ) (o : Option AskingState) → Put old new i o
+    → ((x : AskingState) → o ≡ Some x → IsMannered manner x) → AreMannered manner old → AreMannered manner new
+mannered_put manner old new i o put own before j x is =
     ⊎_elim
     (λ (same : j ≡ i). own x (sym put.here ∙ ap (λ (n : ℕ). slice_index_or new n None) (sym same) ∙ is))
     (λ (other : j ≡ i → ⊥). before j x (sym (put.there j other) ∙ is))
@@ -461,60 +502,100 @@ none_state b e = cc
 abbrev pub HasUntouched : AskingState → Type 0
 HasUntouched y = y.attempt.connected ≡ false → got_by y.attempt.stream ≡ []
 
-framed_by : (framing : Framing) (y : AskingState) → y.framing ≡ framing → HasUntouched y → (x : AskingState) → Some y ≡ Some x → IsFramed framing x
-framed_by framing y framed untouched x is = subst (λ (t : AskingState). IsFramed framing t) (some_state y x is) ((framed, untouched))
+mannered_by : (manner : Manner) (y : AskingState) → y.manner ≡ manner → HasUntouched y → (x : AskingState) → Some y ≡ Some x → IsMannered manner x
+mannered_by manner y mannered untouched x is = subst (λ (t : AskingState). IsMannered manner t) (some_state y x is) ((mannered, untouched))
 
--- what holds of a loop with these clients, jobs and ends, the streams that were left, and what was found, whatever streams wait to be closed
-abbrev pub Keeps : Framing → List StreamValue → List FoundValue → LoopValue → List (Option AskingState) → List (AskingState × Option Outcome) → Type 0
-Keeps framing left looked v asking ended = AsksFairly (whole_loop framing v asking ended (beside left [] looked [])) × AreFramed framing asking
+-- what holds of a loop with these clients, jobs and ends, the streams that are kept, those that were left, and what was found, whatever streams
+-- wait to be closed
+abbrev pub Keeps : Manner → List KeptValue → List StreamValue → List FoundValue → LoopValue → List (Option AskingState) → List (AskingState × Option Outcome) → Type 0
+Keeps manner kept left looked v asking ended = AsksFairly (whole_loop manner v asking ended (beside kept left [] looked [])) × AreMannered manner asking
 
 -- the clients' side went on with none of them
-pub keeps_clients : (framing : Framing) (left : List StreamValue) (looked : List FoundValue) (v w : LoopValue) (asking : List (Option AskingState)) (ended : List (AskingState × Option Outcome)) → HandsNothing v w
-    → Keeps framing left looked v asking ended → Keeps framing left looked w asking ended
-keeps_clients framing left looked v w asking ended hands k =
-    (keeps_asking (whole_loop framing v asking ended (beside left [] looked [])) (whole_loop framing w asking ended (beside left [] looked [])) refl hands refl refl refl refl k.0, k.1)
+pub keeps_clients : (manner : Manner) (kept : List KeptValue) (left : List StreamValue) (looked : List FoundValue) (v w : LoopValue) (asking : List (Option AskingState)) (ended : List (AskingState × Option Outcome)) → HandsNothing v w
+    → Keeps manner kept left looked v asking ended → Keeps manner kept left looked w asking ended
+keeps_clients manner kept left looked v w asking ended hands k =
+    (keeps_asking (whole_loop manner v asking ended (beside kept left [] looked [])) (whole_loop manner w asking ended (beside kept left [] looked [])) refl hands refl refl refl refl refl k.0, k.1)
+
+-- the shares before are the same where the stream is, but for its turns
+same_shares : (p : SocketAddr → ShareValue → Bool) (o n : Option StreamValue) → option_map without_turns n ≡ option_map without_turns o → count_shares p (option_to_list n) ≡ count_shares p (option_to_list o)
+same_shares p o n same = by_it n ∙ ap (λ (k : Option StreamValue). count_shares p (option_to_list k)) same ∙ sym (by_it o)
+  where
+    by_it : (k : Option StreamValue) → count_shares p (option_to_list k) ≡ count_shares p (option_to_list (option_map without_turns k))
+    by_it None = refl
+    by_it (Some t) = refl
+
+-- what has to be seen of one that went on
+abbrev pub HasSameShares : AskingState → AskingState → Type 0
+HasSameShares x y = (p : SocketAddr → ShareValue → Bool) → count_under_way p (Some (asked_for y)) ≡ count_under_way p (Some (asked_for x))
+
+pub shares_stay : (x y : AskingState) → HasStreamsOf (asked_for x) (asked_for y) → HasSameShares x y
+shares_stay x y s p = same_shares p (asked_for x).stream (asked_for y).stream s.stream
+
+none_new : (p : SocketAddr → ShareValue → Bool) (o : Option StreamValue) → All IsNew (option_to_list o) → count_shares p (option_to_list o) ≡ 0
+none_new p None all = refl
+none_new p (Some t) all =
+    let one = sum_by-cons (λ (v : StreamValue). count_by (p v.peer) v.before) t [] in
+    let none : sum_by (λ (v : StreamValue). count_by (p v.peer) v.before) [] ≡ 0 = refl in
+    let new : count_by (p t.peer) t.before ≡ 0 = ap (count_by (p t.peer)) (All-head IsNew t [] all) in
+    omega (arith, one, none, new)
+
+pub shares_over : {a b : NetworkValue} (x y : AskingState) → Connects a b (asked_for x) (asked_for y) → HasSameShares x y
+shares_over {a} {b} x y connects p =
+    ⊎_elim (λ (same : (b ≡ a) × HasStreamsOf (asked_for x) (asked_for y)). shares_stay x y same.1 p)
+    (λ (over : (address : SocketAddr) × GoesOver address a b (asked_for x) (asked_for y)).
+    let new : count_under_way p (Some (asked_for y)) ≡ 0 = ap (λ (o : Option StreamValue). count_shares p (option_to_list o)) over.1.stream in
+    new ∙ sym (none_new p (asked_for x).stream over.1.new))
+    connects
 
 -- one of them went on with its job, and what was found for it is of its name
-pub keeps_own : (framing : Framing) (left : List StreamValue) (looked : List FoundValue) (v : LoopValue) (old new : List (Option AskingState)) (ended : List (AskingState × Option Outcome)) (i : ℕ) (x y : AskingState)
-    → slice_index_or old i None ≡ Some x → y.job ≡ x.job → y.framing ≡ x.framing → Put old new i (Some y) → BeginsRequest (asked_for y) → HasUntouched y → AreOfName y.job.job.address y.addresses.found looked
-    → Keeps framing left looked v old ended → Keeps framing left looked v new ended
-keeps_own framing left looked v old new ended i x y was job framed put begun untouched named k = (
+pub keeps_own : (manner : Manner) (kept : List KeptValue) (left : List StreamValue) (looked : List FoundValue) (v : LoopValue) (old new : List (Option AskingState)) (ended : List (AskingState × Option Outcome)) (i : ℕ) (x y : AskingState)
+    → slice_index_or old i None ≡ Some x → y.job ≡ x.job → y.manner ≡ x.manner → Put old new i (Some y) → BeginsRequest y.manner (asked_for y) → HasUntouched y → HasSameShares x y → AreOfName y.job.job.address y.addresses.found looked
+    → Keeps manner kept left looked v old ended → Keeps manner kept left looked v new ended
+keeps_own manner kept left looked v old new ended i x y was job mannered put begun untouched under named k = (
   record {
     results = k.0.results;
     fair = k.0.fair;
-    begun = each_put (λ (z : AskingValue). BeginsRequest z) old new i (Some y) put (begun_by y begun) k.0.begun;
+    begun = each_put (λ (z : AskingValue). BeginsRequest manner z) old new i (Some y) put (begun_by manner y (subst (λ (m : Manner). BeginsRequest m (asked_for y)) (mannered ∙ (k.1 i x was).0) begun)) k.0.begun;
     found = each_put (IsNamed looked) old new i (Some y) put (named_by looked y named) k.0.found;
     found_ended = k.0.found_ended;
-    shared = k.0.shared;
+    shared = record {
+      shares = λ p.
+          let before = k.0.shared.shares p in
+          let changed = sum_of_put (count_under_way p) refl old new i (Some x) (Some y) was put in
+          let same = under p in
+          omega (arith, before, changed, same);
+      kept_are = k.0.shared.kept_are;
+      left_are = k.0.shared.left_are;
+    };
     jobs = λ p.
         let count = count_put p old new i (Some x) (Some y) was put in
         let same : one_asked p (Some y) ≡ one_asked p (Some x) = ap (λ (j : HandedJob). cond (p j.job) 1 0) job in
         let is : sum_by (one_asked p) new ≡ sum_by (one_asked p) old = omega (arith, count, same) in
-        k.0.jobs p ∙ ap (λ n. count_by (λ (e : EndedValue). p e.asking.job) (whole_loop framing v old ended (beside left [] looked [])).ended + n) (shown_count p old ∙ sym is ∙ sym (shown_count p new));
+        k.0.jobs p ∙ ap (λ n. count_by (λ (e : EndedValue). p e.asking.job) (whole_loop manner v old ended (beside kept left [] looked [])).ended + n) (shown_count p old ∙ sym is ∙ sym (shown_count p new));
   },
-  framed_put framing old new i (Some y) put (framed_by framing y (framed ∙ (k.1 i x was).0) untouched) k.1,
+  mannered_put manner old new i (Some y) put (mannered_by manner y (mannered ∙ (k.1 i x was).0) untouched) k.1,
 )
 
-named_at : (framing : Framing) (left : List StreamValue) (looked : List FoundValue) (v : LoopValue) (old : List (Option AskingState)) (ended : List (AskingState × Option Outcome)) (i : ℕ) (x : AskingState) → slice_index_or old i None ≡ Some x → Keeps framing left looked v old ended
+named_at : (manner : Manner) (kept : List KeptValue) (left : List StreamValue) (looked : List FoundValue) (v : LoopValue) (old : List (Option AskingState)) (ended : List (AskingState × Option Outcome)) (i : ℕ) (x : AskingState) → slice_index_or old i None ≡ Some x → Keeps manner kept left looked v old ended
     → AreOfName x.job.job.address x.addresses.found looked
-named_at framing left looked v old ended i x was k = k.0.found i (asked_for x) (shown_at old i ∙ ap (λ (t : Option AskingState). show_slot t) was)
+named_at manner kept left looked v old ended i x was k = k.0.found i (asked_for x) (shown_at old i ∙ ap (λ (t : Option AskingState). show_slot t) was)
 
 -- .. with what was found before
-pub keeps_put : (framing : Framing) (left : List StreamValue) (looked : List FoundValue) (v : LoopValue) (old new : List (Option AskingState)) (ended : List (AskingState × Option Outcome)) (i : ℕ) (x y : AskingState)
-    → slice_index_or old i None ≡ Some x → y.job ≡ x.job → y.framing ≡ x.framing → y.addresses.found ≡ x.addresses.found → Put old new i (Some y) → BeginsRequest (asked_for y) → HasUntouched y
-    → Keeps framing left looked v old ended → Keeps framing left looked v new ended
-keeps_put framing left looked v old new ended i x y was job framed found put begun untouched k =
-    keeps_own framing left looked v old new ended i x y was job framed put begun untouched (named_same looked x y job found (named_at framing left looked v old ended i x was k)) k
+pub keeps_put : (manner : Manner) (kept : List KeptValue) (left : List StreamValue) (looked : List FoundValue) (v : LoopValue) (old new : List (Option AskingState)) (ended : List (AskingState × Option Outcome)) (i : ℕ) (x y : AskingState)
+    → slice_index_or old i None ≡ Some x → y.job ≡ x.job → y.manner ≡ x.manner → y.addresses.found ≡ x.addresses.found → Put old new i (Some y) → BeginsRequest y.manner (asked_for y) → HasUntouched y → HasSameShares x y
+    → Keeps manner kept left looked v old ended → Keeps manner kept left looked v new ended
+keeps_put manner kept left looked v old new ended i x y was job mannered found put begun untouched under k =
+    keeps_own manner kept left looked v old new ended i x y was job mannered put begun untouched under (named_same looked x y job found (named_at manner kept left looked v old ended i x was k)) k
 
 pub same_streams : (x y : AskingState) → y.tried ≡ x.tried → y.attempt.stream ≡ x.attempt.stream → HasStreamsOf (asked_for x) (asked_for y)
-same_streams x y tried stream = record { tried = tried; peer = ap (λ (o : Option StreamValue). peers_of (option_to_list o)) stream }
+same_streams x y tried stream = record { tried = tried; stream = ap (λ (o : Option StreamValue). option_map without_turns o) stream }
 
 -- .. where more was found for it
-pub finds_put : (framing : Framing) (left : List StreamValue) (looked : List FoundValue) (v : LoopValue) (old new : List (Option AskingState)) (ended : List (AskingState × Option Outcome)) (i : ℕ) (x y : AskingState)
-    → slice_index_or old i None ≡ Some x → y.job ≡ x.job → y.framing ≡ x.framing → (one : FoundValue) (more : List SocketAddr) → (y ≡ x) ⊎ (x.job.job.address ≡ one.name) → Finds one.name more x y → Contains looked one → more ≡ take 32 one.addresses
-    → Put old new i (Some y) → BeginsRequest (asked_for y) → HasUntouched y → Keeps framing left looked v old ended → Keeps framing left looked v new ended
-finds_put framing left looked v old new ended i x y was job framed one more own finds there first put begun untouched a =
-    keeps_own framing left looked v old new ended i x y was job framed put begun untouched (named_found looked x y one more own finds there first (named_at framing left looked v old ended i x was a)) a
+pub finds_put : (manner : Manner) (kept : List KeptValue) (left : List StreamValue) (looked : List FoundValue) (v : LoopValue) (old new : List (Option AskingState)) (ended : List (AskingState × Option Outcome)) (i : ℕ) (x y : AskingState)
+    → slice_index_or old i None ≡ Some x → y.job ≡ x.job → y.manner ≡ x.manner → (one : FoundValue) (more : List SocketAddr) → (y ≡ x) ⊎ (x.job.job.address ≡ one.name) → Finds one.name more x y → Contains looked one → more ≡ take 32 one.addresses
+    → Put old new i (Some y) → BeginsRequest y.manner (asked_for y) → HasUntouched y → HasSameShares x y → Keeps manner kept left looked v old ended → Keeps manner kept left looked v new ended
+finds_put manner kept left looked v old new ended i x y was job mannered one more own finds there first put begun untouched under a =
+    keeps_own manner kept left looked v old new ended i x y was job mannered put begun untouched under (named_found looked x y one more own finds there first (named_at manner kept left looked v old ended i x was a)) a
 
 -- what is seen of it then
 pub found_asked : (name : List ℕ) (more : List SocketAddr) (x y : AskingState) → Finds name more x y → asked_for y ≡ found_asking name more (asked_for x)
@@ -533,10 +614,10 @@ found_asked name more x y finds = by_it (bytes_eq name x.job.job.address) refl
     by_it false is = ap asked_for (finds.1 (λ its. off_on (sym is ∙ (bytes_eq-Decides name x.job.job.address).1 (sym its))))
 
 -- where no job waits, nothing was taken
-pub takes_none : (framing : Framing) (left : List StreamValue) (looked : List FoundValue) (v w : LoopValue) (old new : List (Option AskingState)) (ended : List (AskingState × Option Outcome))
-    → w.results ≡ v.results → w.handed ≡ v.handed ++ [] → new ≡ old → Keeps framing left looked v old ended → Keeps framing left looked w new ended
-takes_none framing left looked v w old new ended same more slots k =
-    subst (λ (now : List (Option AskingState)). Keeps framing left looked w now ended) (sym slots) (
+pub takes_none : (manner : Manner) (kept : List KeptValue) (left : List StreamValue) (looked : List FoundValue) (v w : LoopValue) (old new : List (Option AskingState)) (ended : List (AskingState × Option Outcome))
+    → w.results ≡ v.results → w.handed ≡ v.handed ++ [] → new ≡ old → Keeps manner kept left looked v old ended → Keeps manner kept left looked w new ended
+takes_none manner kept left looked v w old new ended same more slots k =
+    subst (λ (now : List (Option AskingState)). Keeps manner kept left looked w now ended) (sym slots) (
       record {
         results = same ∙ k.0.results;
         fair = k.0.fair;
@@ -550,17 +631,25 @@ takes_none framing left looked v w old new ended same more slots k =
     )
 
 -- a job was taken, and is asked for
-pub takes_job : (framing : Framing) (left : List StreamValue) (looked : List FoundValue) (v w : LoopValue) (old new : List (Option AskingState)) (ended : List (AskingState × Option Outcome)) (i : ℕ) (y : AskingState) (j : JobValue)
-    → w.results ≡ v.results → w.handed ≡ v.handed ++ j ∷ [] → y.job.job ≡ j → y.framing ≡ framing → y.addresses.found ≡ [] → slice_index_or old i None ≡ None → Put old new i (Some y)
-    → BeginsRequest (asked_for y) → HasUntouched y → Keeps framing left looked v old ended → Keeps framing left looked w new ended
-takes_job framing left looked v w old new ended i y j same more job framed none free put begun untouched k = (
+pub takes_job : (manner : Manner) (kept : List KeptValue) (left : List StreamValue) (looked : List FoundValue) (v w : LoopValue) (old new : List (Option AskingState)) (ended : List (AskingState × Option Outcome)) (i : ℕ) (y : AskingState) (j : JobValue)
+    → w.results ≡ v.results → w.handed ≡ v.handed ++ j ∷ [] → y.job.job ≡ j → y.manner ≡ manner → y.addresses.found ≡ [] → (asked_for y).stream ≡ None → slice_index_or old i None ≡ None → Put old new i (Some y)
+    → BeginsRequest y.manner (asked_for y) → HasUntouched y → Keeps manner kept left looked v old ended → Keeps manner kept left looked w new ended
+takes_job manner kept left looked v w old new ended i y j same more job mannered none alone free put begun untouched k = (
   record {
     results = same ∙ k.0.results;
     fair = k.0.fair;
-    begun = each_put (λ (z : AskingValue). BeginsRequest z) old new i (Some y) put (begun_by y begun) k.0.begun;
+    begun = each_put (λ (z : AskingValue). BeginsRequest manner z) old new i (Some y) put (begun_by manner y (subst (λ (m : Manner). BeginsRequest m (asked_for y)) mannered begun)) k.0.begun;
     found = each_put (IsNamed looked) old new i (Some y) put (named_by looked y (inl none)) k.0.found;
     found_ended = k.0.found_ended;
-    shared = k.0.shared;
+    shared = record {
+      shares = λ p.
+          let before = k.0.shared.shares p in
+          let changed = sum_of_put (count_under_way p) refl old new i None (Some y) free put in
+          let fresh : count_under_way p (Some (asked_for y)) ≡ 0 = ap (λ (o : Option StreamValue). count_shares p (option_to_list o)) alone in
+          omega (arith, before, changed, fresh);
+      kept_are = k.0.shared.kept_are;
+      left_are = k.0.shared.left_are;
+    };
     jobs = λ p.
         let count = count_put p old new i None (Some y) free put in
         let own : one_asked p (Some y) ≡ cond (p j) 1 0 = ap (λ (k : JobValue). cond (p k) 1 0) job in
@@ -571,60 +660,8 @@ takes_job framing left looked v w old new ended i y j same more job framed none 
         let later = shown_count p new in
         omega (arith, count, own, handed, one, before, shown, later);
   },
-  framed_put framing old new i (Some y) put (framed_by framing y framed untouched) k.1,
+  mannered_put manner old new i (Some y) put (mannered_by manner y mannered untouched) k.1,
 )
-
--- one of them ended, and its result was handed in
--- a stream that no job went over before has one share, once it is left
-abbrev IsNew : StreamValue → Type 0
-IsNew s = s.before ≡ []
-
-module _ (ended : List EndedValue) (left : List StreamValue) (x : AskingValue) (o : Option Outcome) where
-  abbrev last : EndedValue
-  last = ended_value x o
-
-  -- the stream that is left, if the job had this one
-  abbrev leaves : Option StreamValue → List StreamValue
-  leaves s = option_map_or (λ (t : StreamValue). stream_value t.peer (t.before ++ share_of last) [] ∷ []) s []
-
-  own_share : (s : StreamValue) → x.stream ≡ Some s → share_of last ≡ share_value x.job s.turns o ∷ []
-  own_share s is = ap (λ (k : Option StreamValue). option_map_or (λ (t : StreamValue). share_value x.job t.turns o ∷ []) k []) is
-
-  shares_by : (p : SocketAddr → ShareValue → Bool) (s : Option StreamValue) → x.stream ≡ s → IfSome s IsNew → count_shares p (leaves s) ≡ count_own p last
-  shares_by p None is new = sym (ap (λ (k : Option StreamValue). option_map_or (λ (t : StreamValue). count_by (p t.peer) (share_of last)) k 0) is)
-  shares_by p (Some s) is new =
-      let own = stream_value s.peer (s.before ++ share_of last) [] in
-      let one = sum_by-cons (λ (t : StreamValue). count_by (p t.peer) t.before) own [] in
-      let none : sum_by (λ (t : StreamValue). count_by (p t.peer) t.before) [] ≡ 0 = refl in
-      let its = ap (λ (l : List ShareValue). count_by (p s.peer) (l ++ share_of last)) new in
-      let counted = ap (λ (k : Option StreamValue). option_map_or (λ (t : StreamValue). count_by (p t.peer) (share_of last)) k 0) is in
-      omega (arith, one, none, its, counted)
-
-  one_by : (s : Option StreamValue) → x.stream ≡ s → IfSome s IsNew → All (λ (t : StreamValue). length t.before ≡ 1) (leaves s)
-  one_by None is new = All-nil (λ (t : StreamValue). length t.before ≡ 1)
-  one_by (Some s) is new =
-      let count = ap (λ (l : List ShareValue). length (l ++ share_of last)) new ∙ ap (λ (l : List ShareValue). length l) (own_share s is) in
-      All-push (λ (t : StreamValue). length t.before ≡ 1) [] (stream_value s.peer (s.before ++ share_of last) []) (All-nil (λ (t : StreamValue). length t.before ≡ 1)) (omega (arith, count))
-
-  still_by : (s : Option StreamValue) → All (λ (t : StreamValue). t.turns ≡ []) (leaves s)
-  still_by None = All-nil (λ (t : StreamValue). t.turns ≡ [])
-  still_by (Some s) = All-push (λ (t : StreamValue). t.turns ≡ []) [] (stream_value s.peer (s.before ++ share_of last) []) (All-nil (λ (t : StreamValue). t.turns ≡ [])) refl
-
-  pub more_shared : All IsNew (streams_for x) → AreShared ended left → AreShared (ended ++ last ∷ []) (left ++ left_by x o)
-  more_shared new k =
-      let own_new = (All-pop IsNew (streams_for x) x.tried x.stream refl new).1 in record {
-        shares = λ p.
-            let before = k.shares p in
-            let of_ended : EndedValue → ℕ = count_own p in
-            let total = sum_by-append of_ended ended (last ∷ []) in
-            let its = sum_by-cons of_ended last [] in
-            let none : sum_by of_ended [] ≡ 0 = refl in
-            let more = sum_by-append (λ (s : StreamValue). count_by (p s.peer) s.before) left (left_by x o) in
-            let own = shares_by p x.stream refl own_new in
-            omega (arith, before, total, its, none, more, own);
-        one = All-append (λ (s : StreamValue). length s.before ≡ 1) left (left_by x o) k.one (one_by x.stream refl own_new);
-        still = All-append (λ (s : StreamValue). s.turns ≡ []) left (left_by x o) k.still (still_by x.stream);
-      }
 
 -- one stream more was noted
 pub left_push : {B : Type 0} (show : B → StreamValue) (left later : List (B × Unit {0})) (b : B) (own : List StreamValue) → later ≡ left ++ (b, tt) ∷ [] → show b ∷ [] ≡ own
@@ -633,10 +670,11 @@ left_push {B} show left later b own is its =
     ap (map (λ (s : B × Unit {0}). show s.0)) is ∙ map-append (λ (s : B × Unit {0}). show s.0) left ((b, tt) ∷ [])
     ∙ ap (λ (l : List StreamValue). map (λ (s : B × Unit {0}). show s.0) left ++ l) its
 
-pub ends_one : (framing : Framing) (left : List StreamValue) (looked : List FoundValue) (v w : LoopValue) (old new : List (Option AskingState)) (ended ended' : List (AskingState × Option Outcome)) (left' : List StreamValue) (i : ℕ) (x y : AskingState) (o : Option Outcome) (j : HandedJob)
-    → w.results ≡ v.results ++ (j.job, o) ∷ [] → w.handed ≡ v.handed → slice_index_or old i None ≡ Some x → y.job ≡ x.job → y.framing ≡ x.framing → y.addresses.found ≡ x.addresses.found → j ≡ y.job → Put old new i None
-    → ended' ≡ ended ++ (y, o) ∷ [] → left' ≡ left ++ left_by (asked_for y) o → IsFair y.framing (ended_value (asked_for y) o) → Keeps framing left looked v old ended → Keeps framing left' looked w new ended'
-ends_one framing left looked v w old new ended ended' left' i x y o j results same was job framed found own put more leaves fair k =
+-- one of them ended, and its result was handed in
+pub ends_one : (manner : Manner) (kept : List KeptValue) (left : List StreamValue) (looked : List FoundValue) (v w : LoopValue) (old new : List (Option AskingState)) (ended ended' : List (AskingState × Option Outcome)) (kept' : List KeptValue) (left' gone : List StreamValue) (i : ℕ) (x y : AskingState) (o : Option Outcome) (j : HandedJob)
+    → w.results ≡ v.results ++ (j.job, o) ∷ [] → w.handed ≡ v.handed → slice_index_or old i None ≡ Some x → y.job ≡ x.job → y.manner ≡ x.manner → y.addresses.found ≡ x.addresses.found → HasSameShares x y → j ≡ y.job → Put old new i None
+    → ended' ≡ ended ++ (y, o) ∷ [] → Parted manner (asked_for y) o gone kept kept' → left' ≡ left ++ gone → IsFair y.manner (ended_value (asked_for y) o) → Keeps manner kept left looked v old ended → Keeps manner kept' left' looked w new ended'
+ends_one manner kept left looked v w old new ended ended' kept' left' gone i x y o j results same was job mannered found under own put more parted leaves fair k =
     let show : AskingState × Option Outcome → EndedValue = λ (d : AskingState × Option Outcome). ended_value (asked_for d.0) d.1 in
     let shown : map show ended' ≡ map show ended ++ show (y, o) ∷ [] = ap (map show) more ∙ map-append show ended ((y, o) ∷ []) in
     let pair : EndedValue → JobValue × Option Outcome = λ (e : EndedValue). (e.asking.job, e.outcome) in (
@@ -647,9 +685,9 @@ ends_one framing left looked v w old new ended ended' left' i x y o j results sa
             ∙ sym (map-append pair (map show ended) (show (y, o) ∷ []))
             ∙ ap (map pair) (sym shown);
         fair =
-            subst (All (IsFair framing)) (sym shown)
-            (All-push (IsFair framing) (map show ended) (show (y, o)) k.0.fair (subst (λ (f : Framing). IsFair f (show (y, o))) (framed ∙ (k.1 i x was).0) fair));
-        begun = each_put (λ (z : AskingValue). BeginsRequest z) old new i None put (λ (z : AskingValue) is. absurd (none_asked z is)) k.0.begun;
+            subst (All (IsFair manner)) (sym shown)
+            (All-push (IsFair manner) (map show ended) (show (y, o)) k.0.fair (subst (λ (f : Manner). IsFair f (show (y, o))) (mannered ∙ (k.1 i x was).0) fair));
+        begun = each_put (λ (z : AskingValue). BeginsRequest manner z) old new i None put (λ (z : AskingValue) is. absurd (none_asked z is)) k.0.begun;
         found = each_put (IsNamed looked) old new i None put (λ (z : AskingValue) is. absurd (none_asked z is)) k.0.found;
         found_ended = subst (All (λ (e : EndedValue). IsNamed looked e.asking)) (sym shown)
             (All-push (λ (e : EndedValue). IsNamed looked e.asking) (map show ended) (show (y, o)) k.0.found_ended
@@ -666,34 +704,116 @@ ends_one framing left looked v w old new ended ended' left' i x y o j results sa
             let before = shown_count p old in
             let later = shown_count p new in
             omega (arith, count, one, none, handed, total, last, before, later);
-        shared = subst (λ (l : List EndedValue). AreShared l left') (sym shown)
-            (subst (λ (l : List StreamValue). AreShared (map show ended ++ show (y, o) ∷ []) l) (sym leaves) (more_shared (map show ended) left (asked_for y) o fair.begun.new k.0.shared));
+        shared = record {
+          shares = λ p.
+              let before = k.0.shared.shares p in
+              let changed = sum_of_put (count_under_way p) refl old new i (Some x) None was put in
+              let alike = under p in
+              let total = ap (sum_by (count_own p)) shown ∙ sum_by-append (count_own p) (map show ended) (show (y, o) ∷ []) in
+              let last = sum_by-cons (count_own p) (show (y, o)) [] in
+              let none : sum_by (count_own p) [] ≡ 0 = refl in
+              let its = parted.parts.shares p in
+              let stay = ap (λ (t : List KeptValue). count_shares p (kept_streams t)) parted.kept_are ∙ ap (count_shares p) (map-append (λ (t : KeptValue). t.stream) kept parted.stays) ∙ shares_append p (kept_streams kept) (kept_streams parted.stays) in
+              let later = ap (count_shares p) leaves ∙ shares_append p left gone in
+              omega (arith, before, changed, alike, total, last, none, its, stay, later);
+          kept_are = subst (λ (t : List KeptValue). All (IsKept manner) t) (sym parted.kept_are) (All-append (IsKept manner) kept parted.stays k.0.shared.kept_are parted.parts.stay);
+          left_are = subst (λ (t : List StreamValue). All (IsLeft manner) t) (sym leaves) (All-append (IsLeft manner) left gone k.0.shared.left_are parted.parts.are_left);
+        };
       },
-      framed_put framing old new i None put (λ (z : AskingState) is. absurd (none_state z is)) k.1,
+      mannered_put manner old new i None put (λ (z : AskingState) is. absurd (none_state z is)) k.1,
     )
 
-pub starts_fair : (framing : Framing) (looked : List FoundValue) (v : LoopValue) → v.results ≡ [] → v.handed ≡ [] → Keeps framing [] looked v [] []
-starts_fair framing looked v no_results none_handed = (fair, λ i x is. absurd (none_state x is))
+-- streams that were kept are no more
+pub keeps_kept : (manner : Manner) (kept kept' : List KeptValue) (left left' gone : List StreamValue) (looked : List FoundValue) (v : LoopValue) (asking : List (Option AskingState)) (ended : List (AskingState × Option Outcome))
+    → Moves manner kept kept' gone → left' ≡ left ++ gone → Keeps manner kept left looked v asking ended → Keeps manner kept' left' looked v asking ended
+keeps_kept manner kept kept' left left' gone looked v asking ended moved leaves k = (
+  record {
+    results = k.0.results;
+    fair = k.0.fair;
+    begun = k.0.begun;
+    found = k.0.found;
+    found_ended = k.0.found_ended;
+    jobs = k.0.jobs;
+    shared = record {
+      shares = λ p.
+          let before = k.0.shared.shares p in
+          let its = moved.shares p in
+          let later = ap (count_shares p) leaves ∙ shares_append p left gone in
+          omega (arith, before, its, later);
+      kept_are = moved.stay k.0.shared.kept_are;
+      left_are = subst (λ (t : List StreamValue). All (IsLeft manner) t) (sym leaves) (All-append (IsLeft manner) left gone k.0.shared.left_are (moved.are_left k.0.shared.kept_are));
+    };
+  },
+  k.1,
+)
+
+-- .. and a job goes over one of them
+pub keeps_again : (manner : Manner) (kept kept' : List KeptValue) (left : List StreamValue) (looked : List FoundValue) (v : LoopValue) (old new : List (Option AskingState)) (ended : List (AskingState × Option Outcome)) (i : ℕ) (x y : AskingState) (one : KeptValue) (s : StreamValue)
+    → slice_index_or old i None ≡ Some x → y.job ≡ x.job → y.manner ≡ x.manner → y.addresses.found ≡ x.addresses.found → Put old new i (Some y) → BeginsRequest y.manner (asked_for y) → HasUntouched y
+    → s ≡ one.stream → GoesOverAgain s (asked_for x) (asked_for y) → Moves manner kept kept' (one.stream ∷ []) → Keeps manner kept left looked v old ended → Keeps manner kept' left looked v new ended
+keeps_again manner kept kept' left looked v old new ended i x y one s was job mannered found put begun untouched is again moved k = (
+  record {
+    results = k.0.results;
+    fair = k.0.fair;
+    begun = each_put (λ (z : AskingValue). BeginsRequest manner z) old new i (Some y) put (begun_by manner y (subst (λ (m : Manner). BeginsRequest m (asked_for y)) (mannered ∙ (k.1 i x was).0) begun)) k.0.begun;
+    found = each_put (IsNamed looked) old new i (Some y) put (named_by looked y (named_same looked x y job found (named_at manner kept left looked v old ended i x was k))) k.0.found;
+    found_ended = k.0.found_ended;
+    jobs = λ p.
+        let count = count_put p old new i (Some x) (Some y) was put in
+        let same : one_asked p (Some y) ≡ one_asked p (Some x) = ap (λ (j : HandedJob). cond (p j.job) 1 0) job in
+        let is : sum_by (one_asked p) new ≡ sum_by (one_asked p) old = omega (arith, count, same) in
+        k.0.jobs p ∙ ap (λ n. count_by (λ (e : EndedValue). p e.asking.job) (whole_loop manner v old ended (beside kept left [] looked [])).ended + n) (shown_count p old ∙ sym is ∙ sym (shown_count p new));
+    shared = record {
+      shares = λ p.
+          let before = k.0.shared.shares p in
+          let changed = sum_of_put (count_under_way p) refl old new i (Some x) (Some y) was put in
+          let its = moved.shares p in
+          let alone : count_under_way p (Some (asked_for x)) ≡ 0 = ap (λ (o : Option StreamValue). count_shares p (option_to_list o)) again.alone in
+          let now : count_under_way p (Some (asked_for y)) ≡ count_shares p (one.stream ∷ []) =
+          ap (λ (o : Option StreamValue). count_shares p (option_to_list o)) again.stream
+          ∙ same_but_turns p again.now one.stream (again.peer ∙ ap (λ (t : StreamValue). t.peer) is) (again.before ∙ ap (λ (t : StreamValue). t.before) is) in
+          omega (arith, before, changed, its, alone, now);
+      kept_are = moved.stay k.0.shared.kept_are;
+      left_are = k.0.shared.left_are;
+    };
+  },
+  mannered_put manner old new i (Some y) put (mannered_by manner y (mannered ∙ (k.1 i x was).0) untouched) k.1,
+)
   where
-    fair : AsksFairly (whole_loop framing v [] [] (beside [] [] looked []))
-    fair = search arith
+    same_but_turns : (p : SocketAddr → ShareValue → Bool) (t u : StreamValue) → t.peer ≡ u.peer → t.before ≡ u.before → count_shares p (t ∷ []) ≡ count_shares p (u ∷ [])
+    same_but_turns p t u peer before =
+        ap (λ (a : SocketAddr). count_shares p (stream_value a t.before [] ∷ [])) peer ∙ ap (λ (l : List ShareValue). count_shares p (stream_value u.peer l [] ∷ [])) before
+
+pub starts_fair : (manner : Manner) (looked : List FoundValue) (v : LoopValue) → v.results ≡ [] → v.handed ≡ [] → Keeps manner [] [] looked v [] []
+starts_fair manner looked v no_results none_handed = (fair, λ i x is. absurd (none_state x is))
+  where
+    fair : AsksFairly (whole_loop manner v [] [] (beside [] [] [] looked []))
+    fair = record {
+      results = no_results;
+      fair = All-nil (IsFair manner);
+      begun = λ i x is. absurd (none_asked x is);
+      found = λ i x is. absurd (none_asked x is);
+      found_ended = All-nil (λ (e : EndedValue). IsNamed looked e.asking);
+      jobs = λ p. ap (count_by p) none_handed;
+      shared = record { shares = λ p. refl; kept_are = All-nil (IsKept manner); left_are = All-nil (IsLeft manner) };
+    }
 
 -- .. and whichever those are
-pub fair_closing : (framing : Framing) (v : LoopValue) (asking : List (Option AskingState)) (ended : List (AskingState × Option Outcome)) (rest : Beside)
-    → AsksFairly (whole_loop framing v asking ended (beside rest.left [] rest.looked_up [])) → AsksFairly (whole_loop framing v asking ended rest)
-fair_closing framing v asking ended rest a = record { results = a.results; fair = a.fair; begun = a.begun; found = a.found; found_ended = a.found_ended; jobs = a.jobs; shared = a.shared }
+pub fair_closing : (manner : Manner) (v : LoopValue) (asking : List (Option AskingState)) (ended : List (AskingState × Option Outcome)) (rest : Beside)
+    → AsksFairly (whole_loop manner v asking ended (beside rest.kept rest.left [] rest.looked_up [])) → AsksFairly (whole_loop manner v asking ended rest)
+fair_closing manner v asking ended rest a = record { results = a.results; fair = a.fair; begun = a.begun; found = a.found; found_ended = a.found_ended; jobs = a.jobs; shared = a.shared }
 
 -- what was found before stays so where more is
-pub fair_found : (framing : Framing) (left : List StreamValue) (v : LoopValue) (asking : List (Option AskingState)) (ended : List (AskingState × Option Outcome)) (looked later : List FoundValue) (one : FoundValue) → later ≡ looked ++ one ∷ []
-    → Keeps framing left looked v asking ended → Keeps framing left later v asking ended
-fair_found framing left v asking ended looked later one is k = (
+pub fair_found : (manner : Manner) (kept : List KeptValue) (left : List StreamValue) (v : LoopValue) (asking : List (Option AskingState)) (ended : List (AskingState × Option Outcome)) (looked later : List FoundValue) (one : FoundValue) → later ≡ looked ++ one ∷ []
+    → Keeps manner kept left looked v asking ended → Keeps manner kept left later v asking ended
+fair_found manner kept left v asking ended looked later one is k = (
   record {
     results = k.0.results;
     fair = k.0.fair;
     begun = k.0.begun;
     found = λ i x at. more_found x.job.address x.found (k.0.found i x at);
     found_ended = All-weaker (λ (e : EndedValue). AreOfName e.asking.job.address e.asking.found looked) (λ (e : EndedValue). AreOfName e.asking.job.address e.asking.found later)
-        (λ (e : EndedValue) named. more_found e.asking.job.address e.asking.found named) (whole_loop framing v asking ended (beside left [] looked [])).ended k.0.found_ended;
+        (λ (e : EndedValue) named. more_found e.asking.job.address e.asking.found named) (whole_loop manner v asking ended (beside kept left [] looked [])).ended k.0.found_ended;
     jobs = k.0.jobs;
     shared = k.0.shared;
   },

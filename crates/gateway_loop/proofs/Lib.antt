@@ -9,6 +9,7 @@ pub mod LoopLemmas
 pub mod HistoryLemmas
 pub mod GrowLemmas
 pub mod NameLemmas
+pub mod KeptLemmas
 pub mod AskLemmas
 pub mod RestLemmas
 pub mod TellLemmas

@@ -1,5 +1,5 @@
 -- What it tells that a test answers true.
-use Rattle.gateway_loop.proofs.Words.{◌≡◌, ℕ, zero, suc, ◌+◌, ◌≤◌, Bool, true, false, ◌||◌, option_map, List, [], ◌∷◌, ◌++◌, map, Option, None, Some, refl, sym, ap, ◌∙◌, subst, arith, inl, inr, length, append-nil, count_by, sum_by-cons, is_some, not, slice_index_or, ◌==◌, entries_from, ClientValue, AskingValue, AskingState, GatewayValue, WholeLoop, asked_at, asked_for, shown, IsPrefixOf, request_of, Contains, SocketAddr, got_for, StreamValue}
+use Rattle.gateway_loop.proofs.Words.{◌≡◌, ℕ, zero, suc, ◌+◌, ◌≤◌, Bool, true, false, ◌||◌, option_map, List, [], ◌∷◌, ◌++◌, map, Option, None, Some, refl, sym, ap, ◌∙◌, subst, arith, inl, inr, length, append-nil, count_by, sum_by-cons, is_some, not, slice_index_or, ◌==◌, entries_from, ClientValue, AskingValue, AskingState, GatewayValue, WholeLoop, asked_at, asked_for, shown, IsPrefixOf, request_of, Contains, SocketAddr, got_for, StreamValue, Manner, KeptValue, IsKept, All}
 use Rattle.std.proofs.lemmas.Bool.{eqb-true, leb-true, ltb-false}
 use Rattle.std.proofs.lemmas.Bool.Decides.{nat_tests}
 use Rattle.std.proofs.lemmas.List.{length-append, nil_from_length}
@@ -8,7 +8,7 @@ use Rattle.std.specs.List.{list_all}
 use Rattle.branch_asking.specs.Asking.{got_by, until_of}
 use Rattle.branch_asking.specs.Rests.{is_sent, rests_watched}
 use Rattle.gateway_model.specs.Known.{Shown}
-use Rattle.loop_model.specs.Rest.{AtMost, IsWatched, IsWritten, RestsAsking, RestsClient}
+use Rattle.loop_model.specs.Rest.{AtMost, IsWatched, IsWritten, RestsAsking, RestsClient, RestsKept}
 use Rattle.gateway_loop.proofs.AskLemmas.{HasUntouched, shown_at}
 use Rattle.gateway_loop.proofs.NameLemmas.{among_there}
 use Rattle.gateway_loop.specs.Names.{is_among}
@@ -148,12 +148,12 @@ nothing_more got request begins h =
     by_length : {r g a t : ℕ} → r ≤ g → r ≡ a → a ≡ g + t → t ≡ 0
     by_length le is sum = omega (arith, le, is, sum)
 
-module _ (s : Shown) (until : Option ℕ) (i : ℕ) (x : AskingState) (begins : IsPrefixOf (got_by x.attempt.stream) (request_of x.job.job)) (untouched : HasUntouched x) where
+module _ (s : Shown) (until : Option ℕ) (i : ℕ) (x : AskingState) (begins : IsPrefixOf (got_by x.attempt.stream) (request_of x.manner x.job.job)) (untouched : HasUntouched x) where
   abbrev Sent : Bool
-  Sent = is_sent (asked_for x)
+  Sent = is_sent x.manner (asked_for x)
 
-  all_sent : Sent ≡ true → got_by x.attempt.stream ≡ request_of x.job.job
-  all_sent h = nothing_more (got_by x.attempt.stream) (request_of x.job.job) begins h
+  all_sent : Sent ≡ true → got_by x.attempt.stream ≡ request_of x.manner x.job.job
+  all_sent h = nothing_more (got_by x.attempt.stream) (request_of x.manner x.job.job) begins h
 
   read_by : (b : Bool) → x.attempt.connected ≡ b → (got_by x.attempt.stream ≡ [] → ⊥) → (not x.attempt.reads || not b) ≡ true → not x.attempt.reads ≡ true
   read_by true is some h = one_true (not true) (not x.attempt.reads) (or_swap (not x.attempt.reads) h) refl
@@ -162,10 +162,10 @@ module _ (s : Shown) (until : Option ℕ) (i : ℕ) (x : AskingState) (begins : 
   -- what its stream, watched so, says of it
   pub record RestsStream (watched : Option (ℕ × Bool)) : Type 0 where
     pub unread : (got_by x.attempt.stream ≡ [] → ⊥) → x.attempt.reads ≡ false
-    pub unsent : (got_by x.attempt.stream ≡ request_of x.job.job → ⊥) → x.attempt.writes ≡ false
-    pub watches : is_some x.attempt.stream ≡ true → (writes : Bool) × (watched ≡ Some (2 * i + 1, writes)) × ((got_by x.attempt.stream ≡ request_of x.job.job → ⊥) → writes ≡ true)
+    pub unsent : (got_by x.attempt.stream ≡ request_of x.manner x.job.job → ⊥) → x.attempt.writes ≡ false
+    pub watches : is_some x.attempt.stream ≡ true → (writes : Bool) × (watched ≡ Some (2 * i + 1, writes)) × ((got_by x.attempt.stream ≡ request_of x.manner x.job.job → ⊥) → writes ≡ true)
 
-  unsent_by : (b w : Bool) → Sent ≡ b → (b || w) ≡ true → (got_by x.attempt.stream ≡ request_of x.job.job → ⊥) → w ≡ true
+  unsent_by : (b w : Bool) → Sent ≡ b → (b || w) ≡ true → (got_by x.attempt.stream ≡ request_of x.manner x.job.job → ⊥) → w ≡ true
   unsent_by true w is h unsent = absurd (unsent (all_sent is))
   unsent_by false w is h unsent = h
 
@@ -173,7 +173,7 @@ module _ (s : Shown) (until : Option ℕ) (i : ℕ) (x : AskingState) (begins : 
   streams None h k = absurd (let clash : false ≡ true = h in let f : ⊥ = cc in f)
   streams (Some w) h k =
       let b = both_true _ _ h in
-      let writes : (got_by x.attempt.stream ≡ request_of x.job.job → ⊥) → (w.1 && not x.attempt.writes) ≡ true = unsent_by Sent (w.1 && not x.attempt.writes) refl b.1 in record {
+      let writes : (got_by x.attempt.stream ≡ request_of x.manner x.job.job → ⊥) → (w.1 && not x.attempt.writes) ≡ true = unsent_by Sent (w.1 && not x.attempt.writes) refl b.1 in record {
         unread = λ some. not_true x.attempt.reads (read_by x.attempt.connected refl some b.0);
         unsent = λ unsent. not_true x.attempt.writes (both_true _ _ (writes unsent)).1;
         watches = λ there. (w.1, ap (λ (t : ℕ). Some (t, w.1)) (exchange_of w.0 i k), λ unsent. (both_true _ _ (writes unsent)).0);
@@ -192,7 +192,7 @@ module _ (s : Shown) (until : Option ℕ) (i : ℕ) (x : AskingState) (begins : 
   stream_by true is h k = streams x.attempt.watched h k
   stream_by false is h k = nowhere is h
 
-  pub asking_rests : rests_asking s until i x ≡ true → RestsAsking s until i (asked_for x)
+  pub asking_rests : rests_asking s until i x ≡ true → RestsAsking x.manner s until i (asked_for x)
   asking_rests h =
       let a = both_true _ _ h in
       let b = both_true _ _ a.1 in
@@ -220,12 +220,13 @@ pub as_many : {A B : Type 0} (f : A → B) (slots : List (Option A)) (n : ℕ) �
 as_many f slots n le = rw (shown_none f slots) le
 
 -- each of these was asked for so
-pub all_asking : (s : Shown) (until : Option ℕ) (slots : List (Option AskingState))
-    → ((i : ℕ) (x : AskingValue) → asked_at i (map (λ (o : Option AskingState). option_map asked_for o) slots) ≡ Some x → IsPrefixOf (got_for x) (request_of x.job))
+pub all_asking : (manner : Manner) (s : Shown) (until : Option ℕ) (slots : List (Option AskingState))
+    → ((i : ℕ) (x : AskingValue) → asked_at i (map (λ (o : Option AskingState). option_map asked_for o) slots) ≡ Some x → IsPrefixOf (got_for x) (request_of manner x.job))
+    → ((i : ℕ) (x : AskingState) → slice_index_or slots i None ≡ Some x → x.manner ≡ manner)
     → ((i : ℕ) (x : AskingState) → slice_index_or slots i None ≡ Some x → HasUntouched x)
     → ((i : ℕ) (x : AskingState) → slice_index_or slots i None ≡ Some x → rests_asking s until i x ≡ true)
-    → (i : ℕ) (x : AskingValue) → asked_at i (map (λ (o : Option AskingState). option_map asked_for o) slots) ≡ Some x → RestsAsking s until i x
-all_asking s until slots begins untouched rest i x is = by_slot (slice_index_or slots i None) refl
+    → (i : ℕ) (x : AskingValue) → asked_at i (map (λ (o : Option AskingState). option_map asked_for o) slots) ≡ Some x → RestsAsking manner s until i x
+all_asking manner s until slots begins mannered untouched rest i x is = by_slot (slice_index_or slots i None) refl
   where
     nobody : None ≡ Some x → ⊥
     nobody e = cc
@@ -233,12 +234,20 @@ all_asking s until slots begins untouched rest i x is = by_slot (slice_index_or 
     some_is : (y : AskingValue) → Some y ≡ Some x → y ≡ x
     some_is y e = cc
 
-    by_slot : (o : Option AskingState) → slice_index_or slots i None ≡ o → RestsAsking s until i x
+    by_slot : (o : Option AskingState) → slice_index_or slots i None ≡ o → RestsAsking manner s until i x
     by_slot None at_it = absurd (nobody (sym (shown_at slots i ∙ ap (λ (p : Option AskingState). option_map asked_for p) at_it) ∙ is))
     by_slot (Some y) at_it =
         let same = some_is (asked_for y) (sym (shown_at slots i ∙ ap (λ (p : Option AskingState). option_map asked_for p) at_it) ∙ is) in
-        subst (λ (z : AskingValue). RestsAsking s until i z) same
-        (asking_rests s until i y (subst (λ (z : AskingValue). IsPrefixOf (got_for z) (request_of z.job)) (sym same) (begins i x is)) (untouched i y at_it) (rest i y at_it))
+        let its = mannered i y at_it in
+        subst (λ (z : AskingValue). RestsAsking manner s until i z) same
+        (subst (λ (m : Manner). RestsAsking m s until i (asked_for y)) its
+        (asking_rests s until i y
+        (subst (λ (m : Manner). IsPrefixOf (got_for (asked_for y)) (request_of m y.job.job)) (sym its) (subst (λ (z : AskingValue). IsPrefixOf (got_for z) (request_of manner z.job)) (sym same) (begins i x is)))
+        (untouched i y at_it) (rest i y at_it)))
+
+-- .. of the streams that are kept, where none is due
+pub kept_rest : (manner : Manner) (until : Option ℕ) (kept : List KeptValue) → All (IsKept manner) kept → All (λ (x : KeptValue). AtMost until (Some x.until)) kept → All (RestsKept until) kept
+kept_rest manner until kept are due = λ k d lt. record { watched = (are k d lt).watched; unread = (are k d lt).unread; limited = due k d lt }
 
 -- each of these that has no stream waits for its name
 pub all_named : (waits : List (List ℕ)) (slots : List (Option AskingState)) → ((i : ℕ) (x : AskingState) → slice_index_or slots i None ≡ Some x → is_named waits x ≡ true)

@@ -1,6 +1,7 @@
 -- What reports change.
-use Rattle.gateway_loop.proofs.Words.{◌≡◌, ℕ, zero, suc, Bool, true, false, List, [], ◌∷◌, ◌++◌, map, Option, None, Some, refl, sym, ap, ◌∙◌, option_map, slice_index_or, AskingState, AskingValue, HasTicked, WholeLoop, Ready, asked_for, asked_at, changed_at, tell, tell_all, tell_in, ContinuesLoop, ClosedValue, HasEndedSince, AsksOn, ◌⊎◌, ⊎_elim, inl, inr}
+use Rattle.gateway_loop.proofs.Words.{◌≡◌, ℕ, zero, suc, Bool, true, false, List, [], ◌∷◌, ◌++◌, map, Option, None, Some, refl, sym, ap, ◌∙◌, option_map, slice_index_or, AskingState, AskingValue, HasTicked, WholeLoop, Ready, asked_for, asked_at, changed_at, tell, tell_all, tell_in, ContinuesLoop, ClosedValue, HasEndedSince, AsksOn, ◌⊎◌, ⊎_elim, inl, inr, subst, append-nil, IsPrefixOf, KeptValue, StreamValue, prefix-refl, prefix-trans}
 use Rattle.std.specs.Prelude.{◌%◌, ◌==◌, slice_set}
+use Rattle.gateway_loop.specs.Loop.{HasLeftMore, IsToldBeside}
 use Rattle.gateway_loop.proofs.AskLemmas.{shown_at}
 use Rattle.gateway_loop.proofs.Places.{changed_none}
 
@@ -17,35 +18,70 @@ tells_no_moment (r ∷ rs) w = tells_no_moment rs (tell r w) ∙ told_in (r.toke
 pub ticked_since : (u v w : WholeLoop) → v.side.told ≡ u.side.told → HasTicked v.side w.side → HasTicked u.side w.side
 ticked_since u v w same t = (t.0, t.1, t.2 ∙ ap (λ (l : List ℕ). l ++ t.0 ∷ t.1) same)
 
--- it counts for nothing which streams wait to be closed
-tell_beside_in : (b : Bool) (r : Ready) (w : WholeLoop) (closing : List ClosedValue) → tell_in b r (record w { closing = closing }) ≡ record (tell_in b r w) { closing = closing }
-tell_beside_in true r w closing = refl
-tell_beside_in false r w closing = refl
+-- ---- beside streams that are kept, were left, or wait to be closed
 
-pub tell_beside : (r : Ready) (w : WholeLoop) (closing : List ClosedValue) → tell r (record w { closing = closing }) ≡ record (tell r w) { closing = closing }
-tell_beside r w closing = tell_beside_in (r.token % 2 == 0) r w closing
+pub told_self : (v : WholeLoop) → IsToldBeside v v
+told_self v = record { rest = refl; left = prefix-refl v.left }
 
--- the report was told behind others that were closed
-tell_closing_in : (b : Bool) (r : Ready) (w : WholeLoop) → (tell_in b r w).closing ≡ w.closing
-tell_closing_in true r w = refl
-tell_closing_in false r w = refl
+abbrev with_streams : List KeptValue → List StreamValue → List ClosedValue → WholeLoop → WholeLoop
+with_streams kept left closing w = record w { kept = kept; left = left; closing = closing }
 
-pub told_beside : (r : Ready) (u v w : WholeLoop) → v ≡ record u { closing = v.closing } → w ≡ tell r v → w ≡ record (tell r u) { closing = w.closing }
-told_beside r u v w rest told =
-    told ∙ ap (tell r) rest ∙ tell_beside r u v.closing
-    ∙ ap (λ (c : List ClosedValue). record (tell r u) { closing = c }) (sym (ap (λ (x : WholeLoop). x.closing) told ∙ tell_closing_in (r.token % 2 == 0) r v))
+pub told_then : (u v w : WholeLoop) → IsToldBeside u v → IsToldBeside v w → IsToldBeside u w
+told_then u v w a b = record { rest = b.rest ∙ ap (with_streams w.kept w.left w.closing) a.rest; left = prefix-trans u.left v.left w.left a.left b.left }
 
-pub continues_beside : (v w : WholeLoop) (closing : List ClosedValue) → ContinuesLoop (record v { closing = closing }) w → ContinuesLoop v w
-continues_beside v w closing c = record { framing = c.framing; side = c.side; asking = λ i x is. since i x (c.asking i x is); ended = c.ended; left = c.left; looked_up = c.looked_up }
+pub told_closing : (u v : WholeLoop) → v ≡ record u { closing = v.closing } → IsToldBeside u v
+told_closing u v is =
+    let kept = ap (λ (w : WholeLoop). w.kept) is in
+    let left = ap (λ (w : WholeLoop). w.left) is in record {
+      rest = is ∙ ap (λ (k : List KeptValue). with_streams k u.left v.closing u) (sym kept) ∙ ap (λ (l : List StreamValue). with_streams v.kept l v.closing u) (sym left);
+      left = ([], left ∙ sym (append-nil u.left));
+    }
+
+pub told_left : (u v : WholeLoop) → HasLeftMore u v → IsToldBeside u v
+told_left u v more = record {
+  rest = more.rest ∙ ap (λ (c : List ClosedValue). with_streams v.kept v.left c u) (sym (ap (λ (w : WholeLoop). w.closing) more.rest));
+  left = more.left;
+}
+
+pub left_then : (u v w : WholeLoop) → HasLeftMore u v → HasLeftMore v w → HasLeftMore u w
+left_then u v w a b = record { rest = b.rest ∙ ap (λ (t : WholeLoop). record t { kept = w.kept; left = w.left }) a.rest; left = prefix-trans u.left v.left w.left a.left b.left }
+
+tell_with_in : (b : Bool) (r : Ready) (w : WholeLoop) (kept : List KeptValue) (left : List StreamValue) (closing : List ClosedValue)
+    → tell_in b r (with_streams kept left closing w) ≡ with_streams kept left closing (tell_in b r w)
+tell_with_in true r w kept left closing = refl
+tell_with_in false r w kept left closing = refl
+
+tell_left_in : (b : Bool) (r : Ready) (w : WholeLoop) → (tell_in b r w).left ≡ w.left
+tell_left_in true r w = refl
+tell_left_in false r w = refl
+
+-- the same report was told of both
+pub tell_on : (r : Ready) (u v : WholeLoop) → IsToldBeside u v → IsToldBeside (tell r u) (tell r v)
+tell_on r u v told =
+    let b = r.token % 2 == 0 in
+    let is : tell r v ≡ with_streams v.kept v.left v.closing (tell r u) = ap (tell r) told.rest ∙ tell_with_in b r u v.kept v.left v.closing in record {
+      rest = is ∙ ap (λ (k : List KeptValue). with_streams k v.left v.closing (tell r u)) (sym (ap (λ (w : WholeLoop). w.kept) is))
+          ∙ ap (λ (l : List StreamValue). with_streams (tell r v).kept l v.closing (tell r u)) (sym (ap (λ (w : WholeLoop). w.left) is))
+          ∙ ap (λ (c : List ClosedValue). with_streams (tell r v).kept (tell r v).left c (tell r u)) (sym (ap (λ (w : WholeLoop). w.closing) is));
+      left = subst (λ (l : List StreamValue). IsPrefixOf l (tell r v).left) (sym (tell_left_in b r u)) (subst (λ (l : List StreamValue). IsPrefixOf u.left l) (sym (tell_left_in b r v)) told.left);
+    }
+
+-- what continues the one continues the other
+continues_with : (v w : WholeLoop) (kept : List KeptValue) (left : List StreamValue) (closing : List ClosedValue) → IsPrefixOf v.left left → ContinuesLoop (with_streams kept left closing v) w → ContinuesLoop v w
+continues_with v w kept left closing more c =
+    record { manner = c.manner; side = c.side; asking = λ i x is. since i x (c.asking i x is); ended = c.ended; left = prefix-trans v.left left w.left more c.left; looked_up = c.looked_up }
   where
-    since : (i : ℕ) (x : AskingValue) → (y : AskingValue) × ((asked_at i w.asking ≡ Some y) ⊎ HasEndedSince (record v { closing = closing }) w y) × AsksOn x y
+    since : (i : ℕ) (x : AskingValue) → (y : AskingValue) × ((asked_at i w.asking ≡ Some y) ⊎ HasEndedSince (with_streams kept left closing v) w y) × AsksOn x y
         → (y : AskingValue) × ((asked_at i w.asking ≡ Some y) ⊎ HasEndedSince v w y) × AsksOn x y
     since i x (y, there, on) = (
       y,
       ⊎_elim (λ (here : asked_at i w.asking ≡ Some y). inl here)
-          (λ (e : HasEndedSince (record v { closing = closing }) w y). inr record { before = e.before; outcome = e.outcome; after = e.after; ended_are = e.ended_are }) there,
+          (λ (e : HasEndedSince (with_streams kept left closing v) w y). inr record { before = e.before; outcome = e.outcome; after = e.after; ended_are = e.ended_are }) there,
       on,
     )
+
+pub continues_told : (u v w : WholeLoop) → IsToldBeside u v → ContinuesLoop v w → ContinuesLoop u w
+continues_told u v w told c = continues_with u w v.kept v.left v.closing told.left (subst (λ (t : WholeLoop). ContinuesLoop t w) told.rest c)
 
 -- one more was told
 pub tell_more : (rs : List Ready) (r : Ready) (w : WholeLoop) → tell_all (rs ++ r ∷ []) w ≡ tell r (tell_all rs w)

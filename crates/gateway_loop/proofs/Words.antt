@@ -22,23 +22,25 @@ pub use Rattle.gateway_theory.specs.Served.{after_reply, Served}
 pub use Rattle.gateway_theory.specs.Task.{HandedJob}
 pub use Rattle.gateway_theory.specs.Values.{GatewayValue, shown}
 pub use Rattle.gateway_theory.specs.lemmas.PastLemmas.{prefix-refl, prefix-trans}
-pub use Rattle.http_pieces.specs.declared.framing.Framing.{Framing}
-pub use Rattle.loop_model.specs.Asking.{BeginsRequest, AskingValue, EndedValue, IsFair, ended_value, got_for, given_for, IsUntouched, peers_of, request_of, streams_for}
+pub use Rattle.loop_model.specs.declared.manner.Manner.{Manner}
+pub use Rattle.loop_model.specs.Asking.{BeginsRequest, AskingValue, EndedValue, IsFair, ended_value, got_for, given_for, IsUntouched, peers_of, streams_for}
+pub use Rattle.loop_model.specs.Requests.{request_of}
+pub use Rattle.loop_model.specs.Shares.{AreAt, AreShares, IsKept, IsLeft, IsStreamFor, IsWhole}
 pub use Rattle.loop_model.specs.Clients.{ClientValue, client_value, IsExplainedClient}
 pub use Rattle.loop_model.specs.Accounts.{Account, AccountsFor, AccountsOn, NetworkValue, with_more}
 pub use Rattle.loop_model.specs.Explained.{LoopValue, at, one_below, count_of, Explains, IsKnownBy}
 pub use Rattle.loop_model.specs.Histories.{Extends, GoesOn, IsExplained, LivesMore, LivesOn}
 pub use Rattle.loop_model.specs.Holding.{Fits, HasStood, Holds, HoldsRest, IsHeld, Stands}
-pub use Rattle.loop_model.specs.Streams.{ClosedValue, IsUnused, StreamValue, stream_value}
+pub use Rattle.loop_model.specs.Streams.{ClosedValue, IsNew, IsUnused, KeptValue, ShareValue, StreamValue, closed_stream, kept_value, share_value, stream_value}
 pub use Rattle.loop_model.specs.Growing.{HasTicked, Grows, Continues}
 pub use Rattle.loop_model.specs.Handed.{results, IsResultOf, ResultValue, moments, is_drain, moment_in, result_in, HandsIn, latest}
-pub use Rattle.loop_model.specs.Whole.{AsksOn, AsksFairly, ContinuesLoop, GivesUpStream, HasEndedSince, KeepsStream, WholeLoop, asked_at, count_asked}
+pub use Rattle.loop_model.specs.Whole.{AsksOn, AsksFairly, ContinuesLoop, GivesUpStream, HasEndedSince, KeepsStream, WholeLoop, asked_at, count_asked, AreShared, count_own, count_shares, count_under_way, kept_streams, share_of}
 pub use Rattle.slab.specs.Slab.{Slab, Updates, entries_from, entries, slab_len}
 pub use Rattle.branch_asking.specs.Addresses.{AddressesValue, AreOf, addresses_value, next_of, HasParsed}
 pub use Rattle.branch_asking.specs.Asking.{AskingState, asked_for, Asks, HasGrown, AttemptValue, HasBegun, HasEnded, IsUntouchedAttempt, asking_state, attempt_value}
 pub use Rattle.gateway_loop.specs.Clients.{Leads, lingering, MakesSteps, Onward, IsQuiet, OpensNone, HandsNothing, Follows, IsServing, IsStill, IsStreamOf, FitsOn}
 pub use Rattle.gateway_loop.specs.Laws.{LoopLaws}
-pub use Rattle.gateway_loop.specs.Loop.{Admits, AreFramed, Beside, IsFramed, Goes, GoesAlone, beside, whole_loop}
+pub use Rattle.gateway_loop.specs.Loop.{Admits, AreMannered, Beside, IsMannered, Goes, GoesAlone, beside, whole_loop}
 pub use Rattle.loop_model.specs.Found.{AreFoundFor, AreOfName, FoundValue}
 pub use Rattle.loop_model.specs.Reports.{changed_at, tell, tell_all, tell_in, told_asking, told_client}
 pub use Rattle.wires.specs.declared.ready.Ready.{Ready}

@@ -1,6 +1,7 @@
 pub mod Laws
 pub mod Clients
 pub mod Closing
+pub mod Kept
 pub mod Hints
 pub mod Names
 pub mod Loop

@@ -3,51 +3,56 @@ use Rattle.std.specs.Prelude.{◌≡◌, ◌&&◌, not, if◌then◌else◌, ℕ
 use Rattle.std.specs.Str.{bytes_eq}
 use Rattle.std.specs.declared.net.socket_addr.SocketAddr.{SocketAddr}
 use Rattle.connect_codec.specs.declared.answer.Outcome.{Outcome}
-use Rattle.http_pieces.specs.declared.framing.Framing.{Framing}
 use Rattle.loop_model.specs.Accounts.{AccountsOn, NetworkValue}
+use Rattle.gateway_model.specs.Queue.{IsPrefixOf}
 use Rattle.loop_model.specs.Asking.{AskingValue, ended_value}
-use Rattle.loop_model.specs.Streams.{ClosedValue, StreamValue}
+use Rattle.loop_model.specs.Streams.{ClosedValue, KeptValue, StreamValue}
+use Rattle.loop_model.specs.declared.manner.Manner.{Manner}
 use Rattle.loop_model.specs.Explained.{LoopValue}
 use Rattle.loop_model.specs.Found.{FoundValue}
 use Rattle.loop_model.specs.Whole.{ContinuesLoop, WholeLoop}
 use Rattle.branch_asking.specs.Asking.{AskingState, asked_for, got_by}
 use Rattle.gateway_loop.specs.Clients.{Starts}
 
--- the streams that jobs have left, those that wait for their backends' ends, what was found for names, and the names that are waited for
+-- the streams that are kept, those that jobs have left, those that wait for their backends' ends, what was found for names, and the names that
+-- are waited for
 pub record Beside : Type 0 where
+  pub kept : List KeptValue
   pub left : List StreamValue
   pub closing : List ClosedValue
   pub looked_up : List FoundValue
   pub waits : List (List ℕ)
 
-abbrev pub beside : List StreamValue → List ClosedValue → List FoundValue → List (List ℕ) → Beside
-beside left closing looked_up waits = record { left = left; closing = closing; looked_up = looked_up; waits = waits }
+abbrev pub beside : List KeptValue → List StreamValue → List ClosedValue → List FoundValue → List (List ℕ) → Beside
+beside kept left closing looked_up waits = record { kept = kept; left = left; closing = closing; looked_up = looked_up; waits = waits }
 
-abbrev pub whole_loop : Framing → LoopValue → List (Option AskingState) → List (AskingState × Option Outcome) → Beside → WholeLoop
-whole_loop framing side asking ended beside = record {
-  framing = framing;
+abbrev pub whole_loop : Manner → LoopValue → List (Option AskingState) → List (AskingState × Option Outcome) → Beside → WholeLoop
+whole_loop manner side asking ended beside = record {
+  manner = manner;
   side = side;
   asking = map (λ (o : Option AskingState). option_map asked_for o) asking;
   ended = map (λ (e : AskingState × Option Outcome). ended_value (asked_for e.0) e.1) ended;
+  kept = beside.kept;
   left = beside.left;
   closing = beside.closing;
   looked_up = beside.looked_up;
   waits = beside.waits;
 }
 
--- the reply to it may be framed so, and nothing was written to a stream that has not taken a byte
-abbrev pub IsFramed : Framing → AskingState → Type 0
-IsFramed framing x = (x.framing ≡ framing) × (x.attempt.connected ≡ false → got_by x.attempt.stream ≡ [])
+-- it is asked so, and nothing was written to a stream that has not taken a byte
+abbrev pub IsMannered : Manner → AskingState → Type 0
+IsMannered manner x = (x.manner ≡ manner) × (x.attempt.connected ≡ false → got_by x.attempt.stream ≡ [])
 
 -- .. of all that are asked for
-abbrev pub AreFramed : Framing → List (Option AskingState) → Type 0
-AreFramed framing asking = (i : ℕ) (x : AskingState) → slice_index_or asking i None ≡ Some x → IsFramed framing x
+abbrev pub AreMannered : Manner → List (Option AskingState) → Type 0
+AreMannered manner asking = (i : ℕ) (x : AskingState) → slice_index_or asking i None ≡ Some x → IsMannered manner x
 
 -- a new loop
 pub record StartsLoop (w : WholeLoop) : Type 0 where
   pub side : Starts w.side
   pub none_asked : w.asking ≡ []
   pub none_ended : w.ended ≡ []
+  pub none_kept : w.kept ≡ []
   pub none_left : w.left ≡ []
   pub none_closing : w.closing ≡ []
   pub none_found : w.looked_up ≡ []
@@ -73,3 +78,13 @@ pub record Admits (dealt : ℕ) (found : List FoundValue) (a b : NetworkValue) (
   pub on : (u : WholeLoop) → ContinuesLoop u v → ContinuesLoop u w
   pub accounts : AccountsOn dealt found a b v w
   pub drained : w.side.drained ≡ v.side.drained
+
+-- the same, but for the streams that are kept, and those that were left, of which there may be more
+pub record HasLeftMore (v w : WholeLoop) : Type 0 where
+  pub rest : w ≡ record v { kept = w.kept; left = w.left }
+  pub left : IsPrefixOf v.left w.left
+
+-- .. and for those that wait to be closed
+pub record IsToldBeside (v w : WholeLoop) : Type 0 where
+  pub rest : w ≡ record v { kept = w.kept; left = w.left; closing = w.closing }
+  pub left : IsPrefixOf v.left w.left

@@ -73,4 +73,4 @@ abbrev pub AllNamed : WholeLoop → Type 0
 AllNamed w = (i : ℕ) (x : AskingValue) → asked_at i w.asking ≡ Some x → x.stream ≡ None → Contains w.waits x.job.address
 
 abbrev pub AllAskingRest : Option ℕ → WholeLoop → Type 0
-AllAskingRest until w = (i : ℕ) (x : AskingValue) → asked_at i w.asking ≡ Some x → RestsAsking (shown w.side.core) until i x
+AllAskingRest until w = (i : ℕ) (x : AskingValue) → asked_at i w.asking ≡ Some x → RestsAsking w.manner (shown w.side.core) until i x

@@ -18,10 +18,12 @@ impl<H: ReplyHook + Drop, W: Wire + Drop> EventLoop<H, W> {
         ensures drained { self.new.side.drained ≡ self.old.side.drained }
         ensures no_client { count_by is_some self.new.side.clients ≡ 0 }
         ensures no_job { count_by is_some self.new.asking ≡ 0 }
-        ensures none_waits { self.new.closing ≡ [] }
+        ensures none_waits { (self.new.kept ≡ []) × (self.new.closing ≡ []) }
     {
+        self.keep_no_more();
         self.close_exchanges(net);
         self.close_clients(net);
+        self.close_kept(net);
         self.close_waiting(net);
     }
 

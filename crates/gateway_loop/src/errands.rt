@@ -22,6 +22,7 @@ impl<H: ReplyHook + Drop, W: Wire + Drop> EventLoop<H, W> {
         ensures goes { Goes (N.value net.old) (N.value net.new) self.old self.new }
     {
         for started in 0..most {
+            self.make_room(net);
             let Some(place) = self.begin() else {
                 return started;
             };
@@ -45,10 +46,23 @@ impl<H: ReplyHook + Drop, W: Wire + Drop> EventLoop<H, W> {
         if self.is_over(place) {
             return self.end(net, place);
         }
-        if self.has_address(place) {
+        if self.reuse_any(net, place) {
+            self.begin_over(net, place);
+        } else if self.has_address(place) {
             self.try_next(net, place, Loss::NoAddress);
         } else {
             self.look_up(net, place);
+        }
+    }
+
+    /// The exchange in that place goes over a stream that was kept: it writes what it can, and is watched.
+    fn begin_over<N: Network<W>>(&mut self, net: &mut N, place: usize)
+        ensures goes { Goes (N.value net.old) (N.value net.new) self.old self.new }
+    {
+        match self.step(place) {
+            Progress::Ended => self.end(net, place),
+            Progress::Refused(kind) => self.try_next(net, place, Loss::Write(kind)),
+            Progress::Waits | Progress::More => self.watch(net, place),
         }
     }
 
@@ -162,8 +176,8 @@ impl<H: ReplyHook + Drop, W: Wire + Drop> EventLoop<H, W> {
         }
     }
 
-    /// Writes and reads the stream of the exchange in that place, and sees to its time. It is given up where nobody waits
-    /// for it.
+    /// Writes and reads the stream of the exchange in that place, and sees to its time. It is given up where nobody
+    /// waits for it.
     pub(crate) fn serve_exchange<N: Network<W>>(&mut self, net: &mut N, place: usize)
         ensures goes { Goes (N.value net.old) (N.value net.new) self.old self.new }
     {

@@ -1,4 +1,4 @@
-ghost use Rattle.std.specs.Prelude.{◌≡◌, ◌-◌, ◌==◌, length, IfOk};
+ghost use Rattle.std.specs.Prelude.{◌≡◌, ◌-◌, ◌==◌, is_some, length, IfOk};
 ghost use Rattle.gateway_model.specs.History.{no_history};
 ghost use Rattle.gateway_theory.specs.Gateway.{jobs_of};
 ghost use Rattle.connect_codec.specs.declared.answer.Outcome.{Outcome};
@@ -12,6 +12,7 @@ use crate::clients::Clients;
 use crate::closing::ClosingStreams;
 use crate::comings::LookedUp;
 use crate::ends::Ends;
+use crate::kept::KeptStreams;
 use crate::limits::{MOST_CLIENTS, MOST_EXCHANGES};
 use crate::names::Names;
 use crate::next_turn::NextTurn;
@@ -22,6 +23,7 @@ use connect_codec::Outcome;
 use gateway_core::{ReplyHook, Tally};
 use http_pieces::Framing;
 use http_server::Log;
+use loop_model::Manner;
 use slab::Slab;
 use std::alloc::{AllocError, Global};
 use std::collections::VecDeque;
@@ -43,18 +45,21 @@ pub struct LoopStanding {
     pub tally: Tally,
 }
 
-/// A gateway's core with its clients' streams, and the jobs that are asked for, by their places. Whatever is done by its
-/// functions, each job that was taken is asked for, or has one result, which is that of its exchange (`explained_law`).
+/// A gateway's core with its clients' streams, and the jobs that are asked for, by their places. Whatever is done by
+/// its functions, each job that was taken is asked for, or has one result, which is that of its exchange
+/// (`explained_law`).
 #[derive(Drop)]
 pub struct EventLoop<H, W: Wire> {
     pub(crate) alloc: Global,
-    // how replies of backends may be framed
-    pub(crate) framing: Framing,
+    // how backends are asked
+    pub(crate) manner: Manner,
     // the core and its clients
     pub(crate) clients: Clients<H, W>,
     pub(crate) asking: Slab<Asking<W>>,
     // so many places have exchanges, or had some since none was there
     pub(crate) places: usize,
+    // the streams that are kept, to be used again
+    pub(crate) kept: KeptStreams<W>,
     // the streams that wait for their backends' ends
     pub(crate) closing: ClosingStreams<W>,
     // for proofs: those that ended, each with the outcome that was recorded, the streams that they left, and what was
@@ -74,28 +79,38 @@ pub struct EventLoop<H, W: Wire> {
 impl<H, W: Wire> Model for EventLoop<H, W> {
     ghost use Rattle.std.specs.Prelude.{[], map};
     ghost use Rattle.loop_model.specs.Whole.{AsksFairly, WholeLoop};
-    ghost use Rattle.gateway_loop.specs.Loop.{AreFramed, beside, whole_loop};
+    ghost use Rattle.gateway_loop.specs.Loop.{AreMannered, beside, whole_loop};
 
     ghost Value = { WholeLoop };
 
-    ghost view = { λ l. whole_loop l.framing l.clients l.asking.slots l.ended.items (beside (map (λ s. s.0.stream) l.left.items) l.closing (map (λ f. f.0) l.looked_up.items) l.names) };
+    ghost view = { λ l. whole_loop l.manner l.clients l.asking.slots l.ended.items (beside l.kept (map (λ s. s.0.stream) l.left.items) l.closing (map (λ f. f.0) l.looked_up.items) l.names) };
 
-    ghost invariant = { λ l. AsksFairly (whole_loop l.framing l.clients l.asking.slots l.ended.items (beside (map (λ s. s.0.stream) l.left.items) [] (map (λ f. f.0) l.looked_up.items) []))
-        × AreFramed l.framing l.asking.slots };
+    ghost invariant = { λ l. AsksFairly (whole_loop l.manner l.clients l.asking.slots l.ended.items (beside l.kept (map (λ s. s.0.stream) l.left.items) [] (map (λ f. f.0) l.looked_up.items) []))
+        × AreMannered l.manner l.asking.slots };
 }
 
 impl<H: ReplyHook + Drop, W: Wire + Drop> EventLoop<H, W> {
-    /// A loop that serves these plans, with no client. Replies of backends may be framed so.
-    pub fn new(alloc: Global, plans: Plans, framing: Framing) -> Result<EventLoop<H, W>, AllocError>
-        ensures framing { IfOk result (λ l. l.framing ≡ framing) }
+    /// A loop that serves these plans, with no client. Replies of backends may be framed so, and connections to them
+    /// are kept for so many milliseconds, to be used again; None where none is.
+    pub fn new(
+        alloc: Global,
+        plans: Plans,
+        framing: Framing,
+        keep: Option<u64>,
+    ) -> Result<EventLoop<H, W>, AllocError>
+        ensures manner { IfOk result (λ l. l.manner ≡ record { framing = framing; keeps = is_some keep }) }
         ensures plans { IfOk result (λ l. l.side.core.plans ≡ plans) }
         ensures starts { IfOk result StartsLoop }
         ensures serves { IfOk result (λ l. (unknown : Outcome) → Holds unknown no_history l.side) }
         ensures accounts { IfOk result (λ l. (a : NetworkValue) → AccountsFor (first_account a) a l) }
     {
+        let manner = Manner {
+            framing,
+            keeps: keep.is_some(),
+        };
         Ok(EventLoop {
             alloc,
-            framing,
+            manner,
             names: Names::new(alloc),
             ends: Ends::new(alloc)?,
             unasked: Unasked::new(alloc),
@@ -104,6 +119,7 @@ impl<H: ReplyHook + Drop, W: Wire + Drop> EventLoop<H, W> {
             asking: Slab::with_capacity(alloc, MOST_EXCHANGES)?,
             places: 0,
             clients: Clients::new(alloc, plans)?,
+            kept: KeptStreams::new(alloc, keep),
             closing: ClosingStreams::new(alloc)?,
             ended: Log::new(),
             left: Log::new(),

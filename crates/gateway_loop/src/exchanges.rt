@@ -1,6 +1,6 @@
 ghost use Rattle.std.specs.List.{Contains};
-ghost use Rattle.std.specs.Prelude.{◌≡◌, ◌+◌, ◌∷◌, [], count_by, is_some, take, true};
-ghost use Rattle.gateway_loop.specs.Loop.{Admits, Goes, GoesAlone, found_asking};
+ghost use Rattle.std.specs.Prelude.{◌≡◌, ◌+◌, ◌∷◌, [], IsTrue, count_by, is_some, take, true};
+ghost use Rattle.gateway_loop.specs.Loop.{Admits, Goes, GoesAlone, IsToldBeside, found_asking};
 ghost use Rattle.loop_model.specs.Accounts.{NetworkValue};
 ghost use Rattle.loop_model.specs.Whole.{asked_at};
 ghost use Rattle.loop_model.specs.Reports.{changed_at, tell, told_asking};
@@ -9,10 +9,11 @@ use crate::comings::LookedUp;
 use crate::event_loop::EventLoop;
 use crate::limits::{ATTEMPT, CLOSING, MOST_EXCHANGES, is_due, places_with};
 use crate::tokens::{Owner, exchange_token, owner_of};
-use branch_asking::{Asking, BranchEnd, Errand, Network, Progress};
+use branch_asking::{Asking, BranchEnd, Concluded, Errand, Network, Progress};
 use branch_causes::Cause;
 use branch_exchange::Loss;
 use gateway_core::ReplyHook;
+use loop_model::Manner;
 use slab::Slab;
 use std::collections::VecDeque;
 use std::io::ErrorKind;
@@ -48,8 +49,8 @@ impl<H: ReplyHook + Drop, W: Wire + Drop> EventLoop<H, W> {
         asking.is_some_and(|asking| is_due(asking.until(), self.clients.moment()))
     }
 
-    /// Why the exchange in that place is lost where that deadline has come: its address has not accepted a connection, or
-    /// else.
+    /// Why the exchange in that place is lost where that deadline has come: its address has not accepted a connection,
+    /// or else.
     pub(crate) fn loss_at_deadline(&self, place: usize) -> Loss {
         match self.asking.get(place) {
             Some(asking) if asking.attempt().is_connecting() => Loss::Write(ErrorKind::TimedOut),
@@ -93,7 +94,7 @@ impl<H: ReplyHook + Drop, W: Wire + Drop> EventLoop<H, W> {
         }
         let job = self.clients.take_job()?;
         let errand = Errand::new(self.clients.client_of(&job), self.clients.moment());
-        let asking = Asking::new(self.alloc, self.framing, job, errand);
+        let asking = Asking::new(self.alloc, self.manner, job, errand);
         asking.begun_law();
         let place = self.asking.insert_reserved(asking);
         self.places = places_with(self.places, place, self.asking.len());
@@ -117,10 +118,11 @@ impl<H: ReplyHook + Drop, W: Wire + Drop> EventLoop<H, W> {
     pub(crate) fn connect<N: Network<W>>(&mut self, net: &mut N, place: usize) -> bool
         ensures goes { Goes (N.value net.old) (N.value net.new) self.old self.new }
     {
+        let moment = self.clients.moment();
         let Some(asking) = self.asking.get_mut(place) else {
             return false;
         };
-        let connected = asking.connect(net);
+        let connected = asking.connect(net, moment);
         asking.begun_law();
         connected
     }
@@ -170,8 +172,9 @@ impl<H: ReplyHook + Drop, W: Wire + Drop> EventLoop<H, W> {
         }
     }
 
-    /// Records what came of the exchange in that place, which leaves it: that, and what was noted of it. Its stream waits
-    /// for its backend's end, if its reply came whole and that end is not known to be there; else it is closed.
+    /// Records what came of the exchange in that place, which leaves it: that, and what was noted of it. Its stream is
+    /// kept, if that is asked for and it may be used again. Else it waits for its backend's end, if its reply came
+    /// whole and that end is not known to be there; or it is closed.
     pub(crate) fn record<N: Network<W>>(
         &mut self,
         net: &mut N,
@@ -183,16 +186,17 @@ impl<H: ReplyHook + Drop, W: Wire + Drop> EventLoop<H, W> {
         let mut asking = self.asking.try_remove(place)?;
         let cause = asking.cause();
         let status = asking.status();
-        let is_whole = matches!(cause, Cause::Answer | Cause::Status);
-        let outcome = asking.conclude(self.alloc);
+        let came = matches!(cause, Cause::Answer | Cause::Status);
+        let Concluded { outcome, is_whole } = asking.conclude(self.alloc);
         let cause = cause.settled(&outcome);
         self.ended = self.ended.and(&asking, &outcome);
         let (job, errand, stream) = asking.into_parts(&outcome);
         self.clients.record(&job, outcome);
         let moment = self.clients.moment();
-        let waits = is_whole && !errand.has_ended;
-        if let Some(stream) = stream {
+        let may_keep = may_be_kept(self.manner, is_whole, errand.has_ended);
+        if let Some(stream) = self.kept.keep(stream, may_keep, job.address(), moment) {
             self.left = self.left.and(&stream, &());
+            let waits = came && !errand.has_ended;
             let until = moment.saturating_add(CLOSING);
             let token = exchange_token(place);
             self.closing
@@ -215,16 +219,25 @@ impl<H: ReplyHook + Drop, W: Wire + Drop> EventLoop<H, W> {
     }
 }
 
+/// Whether a stream may be kept: if streams are, its job had its whole reply, with nothing behind it, and its backend
+/// is not known to have ended it.
+fn may_be_kept(manner: Manner, is_whole: bool, has_ended: bool) -> bool
+    ensures { IsTrue result → (manner.keeps ≡ true) × (is_whole ≡ true) }
+{
+    manner.keeps && is_whole && !has_ended
+}
+
 // what else is known of clients and exchanges
 impl<H: ReplyHook + Drop, W: Wire + Drop> EventLoop<H, W> {
-    /// Something became possible at the stream of whom the token names. One that had the token before, and waits for its
-    /// backend's end, is closed if that is there.
+    /// Something became possible at the stream of whom the token names. One that had the token before, and waits for
+    /// its backend's end, is closed if that is there; and so is one that is kept, where something is there to be read.
     pub(crate) fn note_ready<N: Network<W>>(&mut self, net: &mut N, ready: Ready)
-        ensures exact { self.new ≡ record (tell ready self.old) { closing = self.new.closing } }
+        ensures exact { IsToldBeside (tell ready self.old) self.new }
         ensures goes { Goes (N.value net.old) (N.value net.new) self.old self.new }
     {
-        let is_shared = self.close_ended(net, ready);
-        self.tell_ready(ready, is_shared);
+        let is_ended = self.close_ended(net, ready);
+        let is_heard = self.hear_kept(net, ready);
+        self.tell_ready(ready, is_ended || is_heard);
     }
 
     /// Closes the stream that waits for its backend's end under that token, if that is there. Answers whether one did.
@@ -235,8 +248,8 @@ impl<H: ReplyHook + Drop, W: Wire + Drop> EventLoop<H, W> {
         self.closing.note_ready(net, ready)
     }
 
-    /// Something became possible at the stream of whom the token names; whether that may be told of another's, too, that
-    /// had the token before.
+    /// Something became possible at the stream of whom the token names; whether that may be told of another's, too,
+    /// that had the token before.
     fn tell_ready(&mut self, ready: Ready, is_shared: bool)
         ensures exact { self.new ≡ tell ready self.old }
         ensures goes { GoesAlone self.old self.new }
@@ -247,7 +260,8 @@ impl<H: ReplyHook + Drop, W: Wire + Drop> EventLoop<H, W> {
         }
     }
 
-    /// Something became possible at the stream of the exchange in that place; whether that may be told of another's, too.
+    /// Something became possible at the stream of the exchange in that place; whether that may be told of another's,
+    /// too.
     fn report(&mut self, place: usize, ready: Ready, is_shared: bool)
         ensures exact { self.new ≡ record self.old { asking = changed_at (told_asking ready) place self.old.asking } }
         ensures goes { GoesAlone self.old self.new }

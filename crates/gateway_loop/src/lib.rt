@@ -12,11 +12,13 @@ mod errands;
 mod event_loop;
 mod exchanges;
 mod hints;
+mod kept;
 mod laws;
 mod limits;
 mod names;
 mod next_turn;
 mod rest;
+mod reusing;
 mod serving;
 mod tokens;
 mod turn;
@@ -26,6 +28,8 @@ pub use branch_asking::{BranchEnd, NamesAsked, Network};
 pub use branch_causes::Cause;
 pub use comings::{Comings, Dealt, LookedUp};
 pub use event_loop::{EventLoop, LoopStanding};
-pub use limits::{MOST_ADDRESSES, MOST_CLOSING, MOST_EXCHANGES, MOST_LINGERING};
+pub use limits::{
+    MOST_ADDRESSES, MOST_AGE, MOST_CLOSING, MOST_EXCHANGES, MOST_LINGERING, MOST_USES,
+};
 pub use next_turn::NextTurn;
 pub use wires::Ready;

@@ -10,6 +10,12 @@ pub const MOST_LINGERING: usize = 64;
 /// So many streams to backends wait for the backend's end at most; where one more does, the oldest is closed.
 pub const MOST_CLOSING: usize = 64;
 
+/// So many jobs go over a stream that is kept at most.
+pub const MOST_USES: u32 = 1_000;
+
+/// A stream is kept for so many times the time for which one is kept at most, from the moment at which it was made.
+pub const MOST_AGE: u64 = 10;
+
 /// So many addresses of a name are tried at most.
 pub const MOST_ADDRESSES: usize = 32;
 

@@ -1,8 +1,8 @@
 //! When a loop rests.
 ghost use Rattle.gateway_loop.specs.Rests.{AllAskingRest, AllNamed, WaitsForPlace, is_named, is_watched_as, rests_asking};
 ghost use Rattle.gateway_theory.specs.Values.{shown};
-ghost use Rattle.loop_model.specs.Rest.{RestsTill};
-ghost use Rattle.std.specs.Prelude.{◌≡◌, ◌&&◌, ℕ, IsFalse, IsTrue, None, Some};
+ghost use Rattle.loop_model.specs.Rest.{RestsKept, RestsTill};
+ghost use Rattle.std.specs.Prelude.{◌≡◌, ◌&&◌, ℕ, All, IsFalse, IsTrue, None, Some};
 
 use crate::event_loop::EventLoop;
 use crate::limits::{MOST_EXCHANGES, is_not_after};
@@ -38,27 +38,29 @@ impl<H: ReplyHook + Drop, W: Wire + Drop> EventLoop<H, W> {
         NextTurn::by(until, self.clients().moment())
     }
 
-    /// The first limit of a call, of a client that lingers, of an exchange, of an address that has to accept, and of a
-    /// stream that waits for its end.
+    /// The first limit of a call, of a client that lingers, of an exchange, of an address that has to accept, of a
+    /// stream that is kept, and of one that waits for its end.
     fn next_until(&self) -> Option<u64> {
         let asking = self.asking.iter();
         let deadlines = self.clients.core().next_deadline().into_iter();
         deadlines
             .chain(asking.filter_map(|asking| first_limit(asking.1)))
+            .chain(self.kept.next_until())
             .chain(self.closing.next_until())
             .chain(self.clients.next_until())
             .min()
     }
 
-    /// Whether nothing is to be done before that moment: for no client, and for no job that is asked for; one of these
-    /// that has no stream waits for its name; a job waits only while all places are taken; and no deadline lies before it.
+    /// Whether nothing is to be done before that moment: for no client, for no job that is asked for, and for no stream
+    /// that is kept; a job that has no stream waits for its name; a job waits only while all places are taken; and no
+    /// deadline lies before it.
     fn rest(&self, until: Option<u64>) -> bool
         ensures { IsTrue result → RestsTill until self.now }
     {
         if self.may_begin() || !is_not_after(until, self.clients.core().next_deadline()) {
             return false;
         }
-        if !self.clients.all_rest(until) {
+        if !self.clients.all_rest(until) || !self.all_kept_rest(until) {
             return false;
         }
         self.all_exchanges_rest(until)
@@ -72,6 +74,13 @@ impl<H: ReplyHook + Drop, W: Wire + Drop> EventLoop<H, W> {
             return false;
         }
         self.clients.core().waiting_jobs() > 0
+    }
+
+    /// Whether no stream that is kept is due before that moment. Nothing else is to be done for one.
+    fn all_kept_rest(&self, until: Option<u64>) -> bool
+        ensures { IsTrue result → All (RestsKept until) self.now.kept }
+    {
+        self.kept.all_rest(until)
     }
 
     /// Whether nothing is to be done for any job that is asked for before that moment.
@@ -91,7 +100,8 @@ impl<H: ReplyHook + Drop, W: Wire + Drop> EventLoop<H, W> {
         asking.is_none_or(|asking| rests(self.clients.core(), &self.names, asking, until, place))
     }
 
-    /// Whether somebody may not rest to whom nothing came: not all did as it was looked last, or a limit has come since.
+    /// Whether somebody may not rest to whom nothing came: not all did as it was looked last, or a limit has come
+    /// since.
     pub(crate) fn is_restless(&self) -> bool {
         match self.next {
             NextTurn::AtOnce => true,

@@ -1,4 +1,4 @@
-ghost use Rattle.gateway_loop.specs.Loop.{Goes};
+ghost use Rattle.gateway_loop.specs.Loop.{Goes, IsToldBeside};
 ghost use Rattle.loop_model.specs.Accounts.{AccountsOn};
 ghost use Rattle.loop_model.specs.Growing.{HasTicked};
 ghost use Rattle.loop_model.specs.Reports.{tell_all};
@@ -25,6 +25,7 @@ impl<H: ReplyHook + Drop, W: Wire + Drop> EventLoop<H, W> {
         ensures drained { self.new.side.drained ≡ self.old.side.drained }
         ensures taken { (comings.new.ready.items ≡ []) × (comings.new.streams.items ≡ []) × (comings.new.found.items ≡ []) }
     {
+        self.begin_turn();
         self.note_reports(net, comings.ready.as_slice());
         self.tick(net);
         self.admit_all(net, &mut comings.streams);
@@ -42,6 +43,7 @@ impl<H: ReplyHook + Drop, W: Wire + Drop> EventLoop<H, W> {
             self.serve_restless(net);
         }
         self.close_due(net);
+        self.expire_kept(net);
         self.settle(net);
     }
 
@@ -58,7 +60,7 @@ impl<H: ReplyHook + Drop, W: Wire + Drop> EventLoop<H, W> {
 
     /// Tells each report to the stream of its token. One that waits for its backend's end is closed by that.
     fn note_reports<N: Network<W>>(&mut self, net: &mut N, reports: &[Ready])
-        ensures exact { self.new ≡ record (tell_all reports.now self.old) { closing = self.new.closing } }
+        ensures exact { IsToldBeside (tell_all reports.now self.old) self.new }
         ensures goes { Goes (N.value net.old) (N.value net.new) self.old self.new }
     {
         for ready in reports {
@@ -137,6 +139,8 @@ impl<H: ReplyHook + Drop, W: Wire + Drop> EventLoop<H, W> {
     {
         self.clients.drain();
         self.ends.drain();
+        self.keep_no_more();
+        self.close_kept(net);
         self.look_at_all(net);
     }
 

@@ -11,9 +11,10 @@ use Rattle.http_pieces.specs.ReplyHead.{reply_kind}
 use Rattle.http_pieces.specs.declared.framing.Framing.{Framing}
 use Rattle.http_pieces.specs.declared.reply.HttpReply.{HttpReply}
 use Rattle.http_pieces.specs.declared.reply_fault.ReplyFault.{ReplyFault}
-use Rattle.loop_model.specs.Asking.{request_of}
+use Rattle.loop_model.specs.Requests.{request_of}
 use Rattle.loop_model.specs.Shares.{IsShareAnswered, IsWhole, Replies}
 use Rattle.loop_model.specs.Streams.{ShareValue, turns_of}
+use Rattle.loop_model.specs.declared.manner.Manner.{Manner}
 use Rattle.wires.specs.Turns.{came, given_of, got_of, went}
 
 -- a text is cut in one way, and bytes behind a reply change none; what `reply_cut_law` says
@@ -43,50 +44,51 @@ module _ (framing : Framing) (unique : IsUnique framing) (stays : ReplyStays fra
       let others = replies_agree a.0 ps qs r t (omega (arith, same)) a.2 (subst (λ x. Replies framing x qs t) (sym one.1) b.2) in
       (λ i. one.0 i ∷ others.0 i, others.1)
 
+module _ (manner : Manner) (unique : IsUnique manner.framing) (stays : ReplyStays manner.framing) where
   -- the replies of whole shares, in order
-  replies_are : (shares : List ShareValue) → All (IsWhole framing) shares → (more : List ℕ)
-      → (replies : List HttpReply) × Replies framing (given_of (turns_of shares) ++ more) replies more
+  replies_are : (shares : List ShareValue) → All (IsWhole manner) shares → (more : List ℕ)
+      → (replies : List HttpReply) × Replies manner.framing (given_of (turns_of shares) ++ more) replies more
       × (map (λ (x : ShareValue). x.outcome) shares ≡ map told_of replies)
   replies_are [] all more = ([], refl, refl)
   replies_are (x ∷ shares) all more =
-      let first = All-head (IsWhole framing) x shares all in
-      let others = replies_are shares (All-tail (IsWhole framing) x shares all) more in
+      let first = All-head (IsWhole manner) x shares all in
+      let others = replies_are shares (All-tail (IsWhole manner) x shares all) more in
       let behind = given_of (turns_of shares) ++ more in
       let text : given_of (turns_of (x ∷ shares)) ++ more ≡ given_of x.turns ++ behind =
       ap (λ t. t ++ more) (flat_map-append came x.turns (turns_of shares)) ∙ append_assoc (given_of x.turns) (given_of (turns_of shares)) more in (
         first.reply ∷ others.0,
-        (behind, subst (λ t. IsCut (reply_kind framing) t (Complete first.reply behind)) (sym text) (stays (given_of x.turns) behind first.reply [] first.is), others.1),
+        (behind, subst (λ t. IsCut (reply_kind manner.framing) t (Complete first.reply behind)) (sym text) (stays (given_of x.turns) behind first.reply [] first.is), others.1),
         (λ i. first.outcome_is i ∷ others.2 i),
       )
 
   -- however many bytes follow: as many replies as there are shares are those of the shares, one by one
-  pub told : (shares : List ShareValue) → All (IsWhole framing) shares
+  pub told : (shares : List ShareValue) → All (IsWhole manner) shares
       → (more : List ℕ) (replies : List HttpReply) (rest : List ℕ) → length replies ≡ length shares
-      → Replies framing (given_of (turns_of shares) ++ more) replies rest
+      → Replies manner.framing (given_of (turns_of shares) ++ more) replies rest
       → (map (λ (x : ShareValue). x.outcome) shares ≡ map told_of replies) × (rest ≡ more)
   told shares all more replies rest count cut =
       let own = replies_are shares all more in
       let as_many : length own.0 ≡ length shares =
       sym (length-map own.0 told_of) ∙ ap length (sym own.2) ∙ length-map shares (λ (x : ShareValue). x.outcome) in
-      let same = replies_agree _ replies own.0 rest more (count ∙ sym as_many) cut own.1 in
+      let same = replies_agree manner.framing unique stays _ replies own.0 rest more (count ∙ sym as_many) cut own.1 in
       (own.2 ∙ ap (map told_of) (sym same.0), same.1)
 
   -- the reply of one more share that was answered, behind which anything may follow, is the next reply of the text
-  pub told_last : (shares : List ShareValue) → All (IsWhole framing) shares → (x : ShareValue) → IsShareAnswered framing x
+  pub told_last : (shares : List ShareValue) → All (IsWhole manner) shares → (x : ShareValue) → IsShareAnswered manner x
       → (more : List ℕ) (replies : List HttpReply) (reply : HttpReply) (mid rest : List ℕ) → length replies ≡ length shares
-      → Replies framing (given_of (turns_of shares) ++ (given_of x.turns ++ more)) replies mid
-      → IsCut (reply_kind framing) mid (Complete reply rest) → x.outcome ≡ told_of reply
+      → Replies manner.framing (given_of (turns_of shares) ++ (given_of x.turns ++ more)) replies mid
+      → IsCut (reply_kind manner.framing) mid (Complete reply rest) → x.outcome ≡ told_of reply
   told_last shares all x answered more replies reply mid rest count cut next =
       let here = told shares all (given_of x.turns ++ more) replies mid count cut in
       let own = stays (given_of x.turns) more answered.reply answered.rest answered.begins in
       let one = complete_parts _ _ reply answered.reply rest (answered.rest ++ more) refl refl
-      (unique mid _ _ next (subst (λ t. IsCut (reply_kind framing) t (Complete answered.reply (answered.rest ++ more))) (sym here.1) own)) in
+      (unique mid _ _ next (subst (λ t. IsCut (reply_kind manner.framing) t (Complete answered.reply (answered.rest ++ more))) (sym here.1) own)) in
       answered.outcome_is ∙ ap told_of (sym one.0)
 
 -- what was written are their jobs' requests, in order
-pub requests_are : (framing : Framing) (shares : List ShareValue) → All (IsWhole framing) shares
-    → got_of (turns_of shares) ≡ flat_map request_of (map (λ (x : ShareValue). x.job) shares)
-requests_are framing [] all = refl
-requests_are framing (x ∷ shares) all =
-    flat_map-append went x.turns (turns_of shares) ∙ ap (λ t. t ++ got_of (turns_of shares)) (All-head (IsWhole framing) x shares all).sent
-    ∙ ap (λ t. request_of x.job ++ t) (requests_are framing shares (All-tail (IsWhole framing) x shares all))
+pub requests_are : (manner : Manner) (shares : List ShareValue) → All (IsWhole manner) shares
+    → got_of (turns_of shares) ≡ flat_map (request_of manner) (map (λ (x : ShareValue). x.job) shares)
+requests_are manner [] all = refl
+requests_are manner (x ∷ shares) all =
+    flat_map-append went x.turns (turns_of shares) ∙ ap (λ t. t ++ got_of (turns_of shares)) (All-head (IsWhole manner) x shares all).sent
+    ∙ ap (λ t. request_of manner x.job ++ t) (requests_are manner shares (All-tail (IsWhole manner) x shares all))

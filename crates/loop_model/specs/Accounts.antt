@@ -9,7 +9,7 @@ use Rattle.loop_model.specs.Explained.{LoopValue}
 use Rattle.loop_model.specs.Found.{FoundValue, IsAwaited, LookUp, asked_in, found_in}
 use Rattle.loop_model.specs.Standing.{count_clients}
 use Rattle.loop_model.specs.Streams.{ClosedValue, closed_stream, closed_turns, closed_value}
-use Rattle.loop_model.specs.Whole.{WholeLoop}
+use Rattle.loop_model.specs.Whole.{WholeLoop, kept_streams}
 use Rattle.wires.specs.Telling.{ToldValue}
 
 -- what a network has done, in order: the moments that it told, the addresses of the streams that it made, the streams
@@ -51,11 +51,12 @@ first_account a = record { before = a; dealt = 0; lookups = [] }
 abbrev pub streams_before : AskingValue → List ClosedValue
 streams_before x = map closed_stream x.tried
 
--- how many streams to such addresses were made for its jobs, those that are asked for and those that were
+-- how many streams to such addresses were made for its jobs: those of jobs that are asked for, those that were given up, those that are kept,
+-- and those that were left
 abbrev pub count_made : (SocketAddr → Bool) → WholeLoop → ℕ
 count_made p w =
     sum_by (λ (o : Option AskingValue). option_map_or (λ (x : AskingValue). count_by p (peers_of (streams_for x))) o 0) w.asking
-    + sum_by (λ (e : EndedValue). count_by p (peers_of e.asking.tried)) w.ended + count_by p (peers_of w.left)
+    + sum_by (λ (e : EndedValue). count_by p (peers_of e.asking.tried)) w.ended + count_by p (peers_of (kept_streams w.kept)) + count_by p (peers_of w.left)
 
 -- how many such streams its clients and jobs have left: of clients that have gone, of those that were not taken in,
 -- those that were given up for jobs, and those that jobs have left

@@ -3,16 +3,17 @@ use Rattle.std.specs.Prelude.{◌≡◌, ◌⊎◌, ℕ, Bool, All, List, [], �
 use Rattle.std.specs.Option.{option_map_or}
 use Rattle.std.specs.Net.Grammar.{IsSocketText}
 use Rattle.std.specs.declared.net.socket_addr.SocketAddr.{SocketAddr}
-use Rattle.connect_codec.specs.BranchRequest.{branch_request}
 use Rattle.connect_codec.specs.Outcome.{outcome_of}
 use Rattle.connect_codec.specs.declared.answer.Outcome.{Outcome}
 use Rattle.gateway_model.specs.Job.{JobValue}
 use Rattle.gateway_model.specs.Queue.{IsPrefixOf}
 use Rattle.http_pieces.specs.Cut.{Complete, IsCut}
 use Rattle.http_pieces.specs.ReplyHead.{reply_kind}
-use Rattle.http_pieces.specs.declared.framing.Framing.{Framing}
 use Rattle.http_pieces.specs.declared.reply.HttpReply.{HttpReply}
-use Rattle.loop_model.specs.Streams.{StreamValue}
+use Rattle.loop_model.specs.Requests.{request_of}
+use Rattle.loop_model.specs.Shares.{IsStreamFor}
+use Rattle.loop_model.specs.Streams.{IsNew, ShareValue, StreamValue}
+use Rattle.loop_model.specs.declared.manner.Manner.{Manner}
 use Rattle.wires.specs.Turns.{given_of, got_of}
 use Rattle.wires.specs.declared.ready.Ready.{Ready}
 
@@ -46,6 +47,14 @@ got_for x = option_map_or (λ (s : StreamValue). got_of s.turns) x.stream []
 abbrev pub streams_for : AskingValue → List StreamValue
 streams_for x = x.tried ++ option_to_list x.stream
 
+-- those of them over which no job went before
+abbrev pub new_by : StreamValue → List ShareValue → List StreamValue
+new_by s [] = s ∷ []
+new_by s (x ∷ before) = []
+
+abbrev pub new_for : AskingValue → List StreamValue
+new_for x = x.tried ++ option_map_or (λ (s : StreamValue). new_by s s.before) x.stream []
+
 -- one that has ended, and the outcome that was recorded; None where there was no memory for one
 pub record EndedValue : Type 0 where
   pub asking : AskingValue
@@ -54,27 +63,22 @@ pub record EndedValue : Type 0 where
 abbrev pub ended_value : AskingValue → Option Outcome → EndedValue
 ended_value asking outcome = record { asking = asking; outcome = outcome }
 
--- the bytes that ask for the job
-abbrev pub request_of : JobValue → List ℕ
-request_of job =
-    branch_request (record { address = job.address; path = job.path; remaining = job.remaining; request_id = job.request_id; passed = job.passed; body = job.body })
-
 -- nothing was read from the stream, or written to it, since the last share
 abbrev pub IsUntouched : StreamValue → Type 0
 IsUntouched s = (given_of s.turns ≡ []) × (got_of s.turns ≡ [])
 
 -- the request was written whole, what was read begins with a reply, whose body may be framed so, and the outcome is that of this reply
-pub record IsAnswered (framing : Framing) (x : AskingValue) (o : Outcome) : Type 0 where
-  pub whole : got_for x ≡ request_of x.job
+pub record IsAnswered (manner : Manner) (x : AskingValue) (o : Outcome) : Type 0 where
+  pub whole : got_for x ≡ request_of manner x.job
   pub reply : HttpReply
   pub rest : List ℕ
-  pub begins : IsCut (reply_kind framing) (given_for x) (Complete reply rest)
+  pub begins : IsCut (reply_kind manner.framing) (given_for x) (Complete reply rest)
   pub outcome_is : o ≡ outcome_of (Some reply)
 
 -- no reply was lost: the request was not written whole, or what was read does not begin with a whole reply
-abbrev pub IsUnanswered : Framing → AskingValue → Type 0
-IsUnanswered framing x =
-    got_for x ≡ request_of x.job → (reply : HttpReply) → ¬ ((rest : List ℕ) × IsCut (reply_kind framing) (given_for x) (Complete reply rest))
+abbrev pub IsUnanswered : Manner → AskingValue → Type 0
+IsUnanswered manner x =
+    got_for x ≡ request_of manner x.job → (reply : HttpReply) → ¬ ((rest : List ℕ) × IsCut (reply_kind manner.framing) (given_for x) (Complete reply rest))
 
 -- these are the addresses of the text: the one that it spells, or those that were found for it
 abbrev pub AreAddressesOf : List ℕ → List SocketAddr → List SocketAddr → Type 0
@@ -84,20 +88,22 @@ AreAddressesOf text found addresses = ((address : SocketAddr) × IsSocketText te
 abbrev pub peers_of : List StreamValue → List SocketAddr
 peers_of streams = map (λ (s : StreamValue). s.peer) streams
 
--- its streams lead to the addresses of its job, one after the other and from the first on
+-- its new streams lead to the addresses of its job, one after the other and from the first on
 pub record IsAddressed (x : AskingValue) : Type 0 where
   pub later : List SocketAddr
-  pub in_order : AreAddressesOf x.job.address x.found (peers_of (streams_for x) ++ later)
+  pub in_order : AreAddressesOf x.job.address x.found (peers_of (new_for x) ++ later)
 
--- No job went over its streams before. Nothing was written to one that was given up, and to the one that it goes over some first bytes of the
--- job's request, and no others; and they lead to addresses of the job, in order.
-pub record BeginsRequest (x : AskingValue) : Type 0 where
-  pub new : All (λ (s : StreamValue). s.before ≡ []) (streams_for x)
+-- No job went over a stream that was given up, and nothing was written to it or read. To the one that it goes over, if there is one, some
+-- first bytes of the job's request were written, and no others; and it is one for the job's address. The new ones lead to addresses of the
+-- job, in order.
+pub record BeginsRequest (manner : Manner) (x : AskingValue) : Type 0 where
+  pub new : All IsNew x.tried
   pub untouched : All IsUntouched x.tried
-  pub prefix : IsPrefixOf (got_for x) (request_of x.job)
+  pub goes_over : All (IsStreamFor manner x.job.address) (option_to_list x.stream)
+  pub prefix : IsPrefixOf (got_for x) (request_of manner x.job)
   pub addressed : IsAddressed x
 
 -- so it began, and its outcome is that of its reply, which may be framed so, or says that there is none
-pub record IsFair (framing : Framing) (e : EndedValue) : Type 0 where
-  pub begun : BeginsRequest e.asking
-  pub outcome : (o : Outcome) → e.outcome ≡ Some o → ((o ≡ outcome_of None) × IsUnanswered framing e.asking) ⊎ IsAnswered framing e.asking o
+pub record IsFair (manner : Manner) (e : EndedValue) : Type 0 where
+  pub begun : BeginsRequest manner e.asking
+  pub outcome : (o : Outcome) → e.outcome ≡ Some o → ((o ≡ outcome_of None) × IsUnanswered manner e.asking) ⊎ IsAnswered manner e.asking o

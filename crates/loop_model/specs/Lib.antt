@@ -1,6 +1,7 @@
 pub mod Handed
 pub mod Clients
 pub mod Streams
+pub mod Requests
 pub mod Explained
 pub mod Holding
 pub mod Histories

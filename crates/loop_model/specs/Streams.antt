@@ -1,5 +1,5 @@
 -- Streams: what was done at one, and how a closed one stood.
-use Rattle.std.specs.Prelude.{◌≡◌, ℕ, List, [], ◌++◌, flat_map, Option, Some}
+use Rattle.std.specs.Prelude.{◌≡◌, ℕ, Bool, List, [], ◌++◌, flat_map, Option, Some}
 use Rattle.std.specs.declared.net.socket_addr.SocketAddr.{SocketAddr}
 use Rattle.connect_codec.specs.declared.answer.Outcome.{Outcome}
 use Rattle.gateway_model.specs.Job.{JobValue}
@@ -49,3 +49,19 @@ turns_of shares = flat_map (λ (x : ShareValue). x.turns) shares
 -- how the stream stands once it is closed
 abbrev pub closed_stream : StreamValue → ClosedValue
 closed_stream s = closed_turns (Some s.peer) (turns_of s.before ++ s.turns)
+
+-- no job went over it before
+abbrev pub IsNew : StreamValue → Type 0
+IsNew s = s.before ≡ []
+
+-- a stream that is kept, to be used again: the address text of the jobs that went over it, whether a read may bring something, by what token
+-- it is watched, if it is, and until when it is kept
+pub record KeptValue : Type 0 where
+  pub stream : StreamValue
+  pub address : List ℕ
+  pub reads : Bool
+  pub watched : Option (ℕ × Bool)
+  pub until : ℕ
+
+abbrev pub kept_value : StreamValue → List ℕ → Bool → Option (ℕ × Bool) → ℕ → KeptValue
+kept_value stream address reads watched until = record { stream = stream; address = address; reads = reads; watched = watched; until = until }

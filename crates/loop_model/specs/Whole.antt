@@ -1,26 +1,28 @@
 -- A loop: its clients, and the exchanges with its backends.
-use Rattle.std.specs.Prelude.{◌≡◌, ⊤, ◌⊎◌, ℕ, ◌+◌, Bool, false, All, List, [], ◌∷◌, ◌++◌, count_by, length, map, slice_index_or, sum_by, Option, Some, None}
+use Rattle.std.specs.Prelude.{◌≡◌, ⊤, ◌⊎◌, ℕ, ◌+◌, Bool, false, All, List, [], ◌∷◌, ◌++◌, count_by, map, slice_index_or, sum_by, Option, Some, None, option_to_list}
 use Rattle.std.specs.Option.{option_map_or}
 use Rattle.std.specs.declared.net.socket_addr.SocketAddr.{SocketAddr}
 use Rattle.connect_codec.specs.declared.answer.Outcome.{Outcome}
 use Rattle.gateway_model.specs.Job.{JobValue}
 use Rattle.gateway_model.specs.Queue.{IsPrefixOf}
-use Rattle.http_pieces.specs.declared.framing.Framing.{Framing}
 use Rattle.loop_model.specs.Asking.{AskingValue, BeginsRequest, EndedValue, IsFair, ended_value}
 use Rattle.loop_model.specs.Explained.{LoopValue}
 use Rattle.loop_model.specs.Found.{AreOfName, FoundValue}
 use Rattle.loop_model.specs.Histories.{IsExplained}
 use Rattle.loop_model.specs.Growing.{Continues}
-use Rattle.loop_model.specs.Streams.{ClosedValue, ShareValue, StreamValue, share_value}
+use Rattle.loop_model.specs.Shares.{IsKept, IsLeft}
+use Rattle.loop_model.specs.Streams.{ClosedValue, KeptValue, ShareValue, StreamValue, share_value}
+use Rattle.loop_model.specs.declared.manner.Manner.{Manner}
 
--- what is seen of a loop: how replies of its backends may be framed, its clients' side, the jobs that are asked for, in their places, those
--- that were, in the order in which they ended, the streams that jobs have left, of these those that wait for their backends' ends, what was
+-- what is seen of a loop: how it asks its backends, its clients' side, the jobs that are asked for, in their places, those that were, in the
+-- order in which they ended, the streams that are kept, those that jobs have left, of these those that wait for their backends' ends, what was
 -- found for names and handed in, and the names that it waits for
 pub record WholeLoop : Type 0 where
-  pub framing : Framing
+  pub manner : Manner
   pub side : LoopValue
   pub asking : List (Option AskingValue)
   pub ended : List EndedValue
+  pub kept : List KeptValue
   pub left : List StreamValue
   pub closing : List ClosedValue
   pub looked_up : List FoundValue
@@ -46,24 +48,33 @@ count_shares p streams = sum_by (λ (s : StreamValue). count_by (p s.peer) s.bef
 abbrev pub count_own : (SocketAddr → ShareValue → Bool) → EndedValue → ℕ
 count_own p e = option_map_or (λ (s : StreamValue). count_by (p s.peer) (share_of e)) e.asking.stream 0
 
--- The shares of the streams that jobs have left are those of the jobs that have ended, each of a stream to the address to which its job's
--- led. Each stream has one, and none had a turn since.
-pub record AreShared (ended : List EndedValue) (left : List StreamValue) : Type 0 where
-  pub shares : (p : SocketAddr → ShareValue → Bool) → count_shares p left ≡ sum_by (count_own p) ended
-  pub one : All (λ (s : StreamValue). length s.before ≡ 1) left
-  pub still : All (λ (s : StreamValue). s.turns ≡ []) left
+-- .. and how many the stream has over which a job goes
+abbrev pub count_under_way : (SocketAddr → ShareValue → Bool) → Option AskingValue → ℕ
+count_under_way p o = option_map_or (λ (x : AskingValue). count_shares p (option_to_list x.stream)) o 0
+
+-- the streams that are kept
+abbrev pub kept_streams : List KeptValue → List StreamValue
+kept_streams kept = map (λ (x : KeptValue). x.stream) kept
+
+-- The shares of all streams, those over which jobs go, those that are kept, and those that were left, are those of the jobs that have ended,
+-- each of a stream to the address to which its job's led.
+pub record AreShared (manner : Manner) (asking : List (Option AskingValue)) (ended : List EndedValue) (kept : List KeptValue) (left : List StreamValue) : Type 0 where
+  pub shares : (p : SocketAddr → ShareValue → Bool)
+      → sum_by (count_under_way p) asking + count_shares p (kept_streams kept) + count_shares p left ≡ sum_by (count_own p) ended
+  pub kept_are : All (IsKept manner) kept
+  pub left_are : All (IsLeft manner) left
 
 -- the results that were handed in are those of the exchanges that ended, in order, and each ended fairly; what was written of each that is
 -- asked for begins its request; what was found for each was found for its name; a job was taken as often as it has ended, or is asked for; and
--- the shares of the streams that were left are those of the jobs that ended
+-- the shares of all streams are those of the jobs that ended
 pub record AsksFairly (w : WholeLoop) : Type 0 where
   pub results : w.side.results ≡ map (λ (e : EndedValue). (e.asking.job, e.outcome)) w.ended
-  pub fair : All (IsFair w.framing) w.ended
-  pub begun : (i : ℕ) (x : AskingValue) → asked_at i w.asking ≡ Some x → BeginsRequest x
+  pub fair : All (IsFair w.manner) w.ended
+  pub begun : (i : ℕ) (x : AskingValue) → asked_at i w.asking ≡ Some x → BeginsRequest w.manner x
   pub found : (i : ℕ) (x : AskingValue) → asked_at i w.asking ≡ Some x → AreOfName x.job.address x.found w.looked_up
   pub found_ended : All (λ (e : EndedValue). AreOfName e.asking.job.address e.asking.found w.looked_up) w.ended
   pub jobs : (p : JobValue → Bool) → count_by p w.side.handed ≡ count_by (λ (e : EndedValue). p e.asking.job) w.ended + count_asked p w.asking
-  pub shared : AreShared w.ended w.left
+  pub shared : AreShared w.manner w.asking w.ended w.kept w.left
 
 -- one history explains its clients, its moments, its results and its jobs, and its results are those of its exchanges
 pub record IsExplainedLoop (w : WholeLoop) : Type 0 where
@@ -109,10 +120,10 @@ pub record HasEndedSince (v w : WholeLoop) (y : AskingValue) : Type 0 where
   pub after : List EndedValue
   pub ended_are : w.ended ≡ v.ended ++ (before ++ ended_value y outcome ∷ after)
 
--- its replies may be framed as before; all of its clients' side continues; each job that was asked for is asked for in its place with more,
+-- it asks as before; all of its clients' side continues; each job that was asked for is asked for in its place with more,
 -- or has ended with more; and what had ended stays, and what was left
 pub record ContinuesLoop (v w : WholeLoop) : Type 0 where
-  pub framing : w.framing ≡ v.framing
+  pub manner : w.manner ≡ v.manner
   pub side : Continues v.side w.side
   pub asking : (i : ℕ) (x : AskingValue) → asked_at i v.asking ≡ Some x
       → (y : AskingValue) × ((asked_at i w.asking ≡ Some y) ⊎ HasEndedSince v w y) × AsksOn x y

@@ -2,3 +2,6 @@
 #![tactic(auto)]
 
 pub mod laws;
+mod manner;
+
+pub use manner::Manner;

@@ -17,9 +17,12 @@ use Rattle.connect_codec.specs.Message.{message_bytes}
 use Rattle.gateway_model.specs.Job.{JobValue}
 use Rattle.gateway_model.specs.Queue.{IsPrefixOf}
 use Rattle.std.specs.declared.net.socket_addr.SocketAddr.{SocketAddr}
-use Rattle.loop_model.specs.Asking.{AskingValue, BeginsRequest, EndedValue, IsAddressed, IsFair, IsUntouched, peers_of, request_of, streams_for}
-use Rattle.loop_model.specs.Streams.{StreamValue}
-use Rattle.wires.specs.Turns.{Turn, got_of}
+use Rattle.loop_model.specs.Asking.{BeginsRequest, EndedValue, IsAddressed, IsFair, IsUntouched, peers_of, streams_for}
+use Rattle.loop_model.specs.Requests.{request_of}
+use Rattle.loop_model.specs.Shares.{AreShares, IsStreamFor, IsWhole}
+use Rattle.loop_model.specs.Streams.{IsNew, ShareValue, StreamValue}
+use Rattle.loop_model.specs.declared.manner.Manner.{Manner}
+use Rattle.wires.specs.Turns.{BeginsQuietly, Turn, got_of}
 use Rattle.std.proofs.lemmas.List.{map-append}
 use Rattle.loop_rows.specs.LoopRows.{asked, ended, new_stream, talk}
 
@@ -39,23 +42,37 @@ found_last a j tried turns = record {
   in_order = inr (append-nil (peers_of (streams_for (asked a j tried turns))) ∙ map-append (λ (s : StreamValue). s.peer) tried (new_stream a turns ∷ []));
 }
 
--- no job went over its streams before
-abbrev pub IsNew : StreamValue → Type 0
-IsNew s = s.before ≡ []
+-- no share is there
+pub no_shares : (m : Manner) → AreShares m []
+no_shares m = record { whole = All-nil (IsWhole m); quiet = All-nil (λ (x : ShareValue). BeginsQuietly x.turns) }
+
+-- a new stream is one for any job
+pub is_for_any : (m : Manner) (address : List ℕ) (a : SocketAddr) (turns : List Turn) → IsStreamFor m address (new_stream a turns)
+is_for_any m address a turns = record {
+  shares = no_shares m;
+  same = All-nil (λ (x : ShareValue). x.job.address ≡ address);
+  quiet = λ used. absurd (used refl);
+  kept = λ off. refl;
+}
 
 -- it began so, over its first stream
-pub begins_so : (a : SocketAddr) (j : JobValue) (turns : List Turn) → IsPrefixOf (got_of turns) (request_of j) → BeginsRequest (asked a j [] turns)
-begins_so a j turns prefix =
-    record { new = all_one IsNew (new_stream a turns) refl; untouched = All-nil IsUntouched; prefix = prefix; addressed = found_last a j [] turns }
+pub begins_so : (m : Manner) (a : SocketAddr) (j : JobValue) (turns : List Turn) → IsPrefixOf (got_of turns) (request_of m j) → BeginsRequest m (asked a j [] turns)
+begins_so m a j turns prefix = record {
+  new = All-nil IsNew;
+  untouched = All-nil IsUntouched;
+  goes_over = all_one (IsStreamFor m j.address) (new_stream a turns) (is_for_any m j.address a turns);
+  prefix = prefix;
+  addressed = found_last a j [] turns;
+}
 
 -- .. with all of these bytes
 pub prefix_of : (xs front more : List ℕ) → xs ≡ front ++ more → IsPrefixOf (front ++ []) xs
 prefix_of xs front more is = (more, is ∙ ap (λ (l : List ℕ). l ++ more) (sym (append-nil front)))
 
 -- each request begins with POST
-pub begins_with_p : (j : JobValue) → slice_index_or (request_of j) 0 0 ≡ 80
+pub begins_with_p : (m : Manner) (j : JobValue) → slice_index_or (request_of m j) 0 0 ≡ 80
 unfolding branch_request message_bytes
-begins_with_p j = refl
+begins_with_p m j = refl
 
 pub is_something : (xs : List ℕ) → slice_index_or xs 0 0 ≡ 80 → length xs ≡ 0 → ⊥
 is_something [] first none = omega (arith, first)
@@ -122,39 +139,39 @@ none_read framing reply rest (with_head n a block head is) = ends_nowhere n bloc
 abbrev pub CutsOnce : Framing → Type 0
 CutsOnce framing = (text : List ℕ) (c d : Cut ReplyFault HttpReply) → IsCut (reply_kind framing) text c → IsCut (reply_kind framing) text d → c ≡ d
 
-module _ (f : Framing) (a : SocketAddr) (j : JobValue) (given : List ℕ) where
+module _ (m : Manner) (a : SocketAddr) (j : JobValue) (given : List ℕ) where
   -- all of the request was written, and these bytes were read
-  begun : BeginsRequest (asked a j [] (talk (request_of j) given))
-  begun = begins_so a j (talk (request_of j) given) (prefix_of (request_of j) (request_of j) [] (sym (append-nil (request_of j))))
+  begun : BeginsRequest m (asked a j [] (talk (request_of m j) given))
+  begun = begins_so m a j (talk (request_of m j) given) (prefix_of (request_of m j) (request_of m j) [] (sym (append-nil (request_of m j))))
 
   -- by the reply that it began with
-  pub answered_by : (reply : HttpReply) (rest : List ℕ) → IsCut (reply_kind f) given (Complete reply rest)
-      → IsFair f (ended a j [] (talk (request_of j) given) (Some (outcome_of (Some reply))))
+  pub answered_by : (reply : HttpReply) (rest : List ℕ) → IsCut (reply_kind m.framing) given (Complete reply rest)
+      → IsFair m (ended a j [] (talk (request_of m j) given) (Some (outcome_of (Some reply))))
   answered_by reply rest cut = record {
     begun = begun;
     outcome = λ o is. inr (record {
-      whole = append-nil (request_of j);
+      whole = append-nil (request_of m j);
       reply = reply;
       rest = rest;
-      begins = subst (λ (t : List ℕ). IsCut (reply_kind f) t (Complete reply rest)) (sym (append-nil given)) cut;
+      begins = subst (λ (t : List ℕ). IsCut (reply_kind m.framing) t (Complete reply rest)) (sym (append-nil given)) cut;
       outcome_is = sym (some_is _ o is);
     });
   }
 
   -- by none, where it began with none
-  pub lost_by : ((reply : HttpReply) (rest : List ℕ) → IsCut (reply_kind f) given (Complete reply rest) → ⊥)
-      → IsFair f (ended a j [] (talk (request_of j) given) (Some (outcome_of None)))
+  pub lost_by : ((reply : HttpReply) (rest : List ℕ) → IsCut (reply_kind m.framing) given (Complete reply rest) → ⊥)
+      → IsFair m (ended a j [] (talk (request_of m j) given) (Some (outcome_of None)))
   lost_by none = record {
     begun = begun;
     outcome = λ o same. inl (
       sym (some_is _ o same),
       λ whole reply begins.
-          none reply begins.0 (subst (λ (t : List ℕ). IsCut (reply_kind f) t (Complete reply begins.0)) (append-nil given) begins.1),
+          none reply begins.0 (subst (λ (t : List ℕ). IsCut (reply_kind m.framing) t (Complete reply begins.0)) (append-nil given) begins.1),
     );
   }
 
-  pub lost_by_refusal : CutsOnce f → (fault : ReplyFault) → IsCut (reply_kind f) given (Refused fault)
-      → IsFair f (ended a j [] (talk (request_of j) given) (Some (outcome_of None)))
+  pub lost_by_refusal : CutsOnce m.framing → (fault : ReplyFault) → IsCut (reply_kind m.framing) given (Refused fault)
+      → IsFair m (ended a j [] (talk (request_of m j) given) (Some (outcome_of None)))
   lost_by_refusal once fault cut = lost_by (λ reply rest whole. not_refused fault reply rest (once given _ _ cut whole))
 
 -- ---- results

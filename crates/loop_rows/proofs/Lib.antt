@@ -4,3 +4,4 @@ pub mod LostLemmas
 pub mod ConnectionLemmas
 pub mod NameRows
 pub mod ShareRows
+pub mod QuietLemmas

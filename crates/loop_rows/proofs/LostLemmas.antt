@@ -7,12 +7,14 @@ use Rattle.gateway_model.specs.Job.{JobValue}
 use Rattle.gateway_model.specs.Starts.{Placed}
 use Rattle.gateway_theory.specs.Values.{GatewayValue}
 use Rattle.gateway_theory.specs.lemmas.PastLemmas.{prefix-refl}
-use Rattle.http_pieces.specs.declared.framing.Framing.{Framing}
 use Rattle.std.specs.declared.net.socket_addr.SocketAddr.{SocketAddr}
-use Rattle.loop_model.specs.Asking.{AskingValue, BeginsRequest, EndedValue, IsUntouched, ended_value, request_of}
+use Rattle.loop_model.specs.Asking.{AskingValue, BeginsRequest, EndedValue, IsUntouched, ended_value}
 use Rattle.loop_model.specs.Clients.{ClientValue}
 use Rattle.loop_model.specs.Growing.{Continues}
-use Rattle.loop_model.specs.Streams.{StreamValue, stream_value}
+use Rattle.loop_model.specs.Requests.{request_of}
+use Rattle.loop_model.specs.Shares.{IsStreamFor}
+use Rattle.loop_model.specs.Streams.{IsNew, StreamValue}
+use Rattle.loop_model.specs.declared.manner.Manner.{Manner}
 use Rattle.loop_model.specs.Histories.{Extends, GoesOn, LivesOn}
 use Rattle.loop_model.specs.Explained.{LoopValue}
 use Rattle.gateway_model.specs.History.{History}
@@ -51,10 +53,10 @@ pub goes_on : (l : LoopValue) → GoesOn l l
 goes_on l = λ unknown h held. (h, held, extends_none h, lives_none l.core h)
 
 -- nobody is there, and this is more
-pub side_on : (f : Framing) (v : GatewayValue) (results more : List (JobValue × Option Outcome)) (handed : List JobValue)
-    → GoesOn (loop_of f v results handed [] []).side (loop_of f v (results ++ more) handed [] []).side
-    → Continues (loop_of f v results handed [] []).side (loop_of f v (results ++ more) handed [] []).side
-side_on f v results more handed history = record {
+pub side_on : (m : Manner) (v : GatewayValue) (results more : List (JobValue × Option Outcome)) (handed : List JobValue)
+    → GoesOn (loop_of m v results handed [] []).side (loop_of m v (results ++ more) handed [] []).side
+    → Continues (loop_of m v results handed [] []).side (loop_of m v (results ++ more) handed [] []).side
+side_on m v results more handed history = record {
   history = history;
   plans = refl;
   clients = λ i x is. absurd (none_there x (nobody i ∙ is));
@@ -86,11 +88,12 @@ nowhere zero y is = none_is y is
 nowhere (suc i) y is = none_is y is
 
 -- nothing was done for it yet
-pub begins_at_first : (j : JobValue) → BeginsRequest (asking j)
-begins_at_first j = record {
-  new = All-nil (λ (s : StreamValue). s.before ≡ []);
+pub begins_at_first : (m : Manner) (j : JobValue) → BeginsRequest m (asking j)
+begins_at_first m j = record {
+  new = All-nil IsNew;
   untouched = All-nil IsUntouched;
-  prefix = (request_of j, refl);
+  goes_over = All-nil (IsStreamFor m j.address);
+  prefix = (request_of m j, refl);
   addressed = record { later = []; in_order = inr refl };
 }
 

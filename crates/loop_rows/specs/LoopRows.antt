@@ -21,14 +21,23 @@ use Rattle.http_pieces.specs.declared.reply_fault.ReplyFault.{ReplyFault}
 use Rattle.std.specs.declared.net.socket_addr.SocketAddr.{SocketAddr}
 use Rattle.loop_model.specs.Accounts.{Account, NetworkValue}
 use Rattle.loop_model.specs.Found.{FoundValue, LookUp}
-use Rattle.loop_model.specs.Streams.{ClosedValue, StreamValue, stream_value}
+use Rattle.loop_model.specs.Streams.{ClosedValue, KeptValue, ShareValue, StreamValue, kept_value, stream_value}
 use Rattle.loop_model.specs.Asking.{AskingValue, EndedValue, ended_value, peers_of}
 use Rattle.loop_model.specs.Clients.{ClientValue, client_value}
 use Rattle.loop_model.specs.Explained.{LoopValue}
 use Rattle.loop_model.specs.Handed.{ResultValue}
 use Rattle.loop_model.specs.Whole.{WholeLoop, share_of}
+use Rattle.loop_model.specs.declared.manner.Manner.{Manner}
 use Rattle.wires.specs.Turns.{Came, Turn, Went}
 use Rattle.wires.specs.declared.ready.Ready.{Ready}
+
+-- replies may be framed so, and no stream is kept
+abbrev pub without_keeping : Framing → Manner
+without_keeping framing = record { framing = framing; keeps = false }
+
+-- .. and streams are kept
+abbrev pub keeping : Framing → Manner
+keeping framing = record { framing = framing; keeps = true }
 
 -- these events after two openings that succeeded
 abbrev pub after : Before → History
@@ -57,6 +66,10 @@ new_stream a turns = stream_value a [] turns
 abbrev pub asked : SocketAddr → JobValue → List StreamValue → List Turn → AskingValue
 asked a j tried turns = record { job = j; known = true; found = peers_of tried ++ a ∷ []; tried = tried; stream = Some (new_stream a turns); reads = false; writes = false; watched = None; reported = []; until = None; over = false }
 
+-- .. over such a stream, over which jobs with these shares went before
+abbrev pub asked_over : SocketAddr → JobValue → List ShareValue → List Turn → AskingValue
+asked_over a j before turns = record (asked a j [] turns) { stream = Some (stream_value a before turns) }
+
 -- .. over a stream to this address, where these were found for its name
 abbrev pub asked_at_peer : SocketAddr → List SocketAddr → JobValue → AskingValue
 asked_at_peer peer found job = record { job = job; known = true; found = found; tried = []; stream = Some (new_stream peer []); reads = false; writes = false; watched = None; reported = []; until = None; over = false }
@@ -64,6 +77,15 @@ asked_at_peer peer found job = record { job = job; known = true; found = found; 
 -- it was asked for so, and that was recorded of it
 abbrev pub ended : SocketAddr → JobValue → List StreamValue → List Turn → Option Outcome → EndedValue
 ended a j tried turns outcome = ended_value (asked a j tried turns) outcome
+
+-- .. over a stream over which jobs with these shares went before
+abbrev pub ended_over : SocketAddr → JobValue → List ShareValue → List Turn → Option Outcome → EndedValue
+ended_over a j before turns outcome = ended_value (asked_over a j before turns) outcome
+
+-- a stream to this address that is kept until 5 for jobs at that address text: jobs with these shares went over it, and these turns were done
+-- since. It is watched, and nothing is there to be read.
+abbrev pub kept_for : List ℕ → SocketAddr → List ShareValue → List Turn → KeptValue
+kept_for address a before turns = kept_value (stream_value a before turns) address false (Some (3, true)) 5
 
 -- a client of that connection: whether it lingers, what was read and written, whether a read found its end, and what waits to be written
 abbrev pub client_with : ℕ → Bool → List ℕ → List ℕ → Bool → List ℕ → ClientValue
@@ -81,13 +103,14 @@ with_clients core clients gone = record { core = core; clients = clients; gone =
 abbrev pub left_of : EndedValue → List StreamValue
 left_of e = option_map_or (λ (s : StreamValue). stream_value s.peer (s.before ++ share_of e) [] ∷ []) e.asking.stream []
 
--- a loop without clients, whose replies may be framed so
-abbrev pub loop_of : Framing → GatewayValue → List (JobValue × Option Outcome) → List JobValue → List (Option AskingValue) → List EndedValue → WholeLoop
-loop_of framing core results handed asking ended = record {
-  framing = framing;
+-- a loop without clients, which asks its backends so, and keeps no stream now
+abbrev pub loop_of : Manner → GatewayValue → List (JobValue × Option Outcome) → List JobValue → List (Option AskingValue) → List EndedValue → WholeLoop
+loop_of manner core results handed asking ended = record {
+  manner = manner;
   side = record { core = core; clients = []; gone = []; unserved = []; told = []; results = results; handed = handed; drained = false };
   asking = asking;
   ended = ended;
+  kept = [];
   left = flat_map left_of ended;
   closing = [];
   looked_up = [];
@@ -95,8 +118,8 @@ loop_of framing core results handed asking ended = record {
 }
 
 -- .. that asks for one job
-abbrev pub asks : Framing → GatewayValue → AskingValue → WholeLoop
-asks framing core x = loop_of framing core [] (x.job ∷ []) (Some x ∷ []) []
+abbrev pub asks : Manner → GatewayValue → AskingValue → WholeLoop
+asks manner core x = loop_of manner core [] (x.job ∷ []) (Some x ∷ []) []
 
 -- something occurs by the history, and by whatever does these bytes are queued for that connection
 pub record Queues (plans : List PlanRecord) (h : History) (conn : ℕ) (bytes : List ℕ) : Type 0 where
@@ -147,12 +170,12 @@ abbrev pub readable : ℕ → Ready
 readable token = record { token = token; readable = true; writable = false; read_closed = false; urgent = false }
 
 -- a loop with these clients, which asks for these jobs
-abbrev pub loop_with : GatewayValue → List (Option ClientValue) → List (Option AskingValue) → WholeLoop
-loop_with core clients asking = record { framing = framing.Fixed; side = with_clients core clients []; asking = asking; ended = []; left = []; closing = []; looked_up = []; waits = [] }
+abbrev pub loop_with : Manner → GatewayValue → List (Option ClientValue) → List (Option AskingValue) → WholeLoop
+loop_with manner core clients asking = record { manner = manner; side = with_clients core clients []; asking = asking; ended = []; kept = []; left = []; closing = []; looked_up = []; waits = [] }
 
 -- .. without clients, which waits for these names
-abbrev pub loop_that_waits : GatewayValue → List (Option AskingValue) → List FoundValue → List (List ℕ) → WholeLoop
-loop_that_waits core asking looked_up waits = record (loop_with core [] asking) { looked_up = looked_up; waits = waits }
+abbrev pub loop_that_waits : Manner → GatewayValue → List (Option AskingValue) → List FoundValue → List (List ℕ) → WholeLoop
+loop_that_waits manner core asking looked_up waits = record (loop_with manner core [] asking) { looked_up = looked_up; waits = waits }
 
 -- nothing is there for connection 0, which goes on
 pub record IsQuietAt (s : Shown) : Type 0 where
@@ -180,9 +203,13 @@ abbrev pub network_asked : List (List ℕ) → NetworkValue
 network_asked names = record { told = []; made = []; closed = []; asked = names }
 
 -- a loop without clients, whose jobs ended so, and where these streams wait to be closed
-abbrev pub with_ends : Framing → GatewayValue → List EndedValue → List ClosedValue → WholeLoop
-with_ends framing core ended closing = record { framing = framing; side = with_clients core [] []; asking = []; ended = ended; left = flat_map left_of ended; closing = closing; looked_up = []; waits = [] }
+abbrev pub with_ends : Manner → GatewayValue → List EndedValue → List ClosedValue → WholeLoop
+with_ends manner core ended closing = record { manner = manner; side = with_clients core [] []; asking = []; ended = ended; kept = []; left = flat_map left_of ended; closing = closing; looked_up = []; waits = [] }
 
 -- .. with these clients, and these who have gone
-abbrev pub with_gone : Framing → GatewayValue → List (Option ClientValue) → List ClientValue → WholeLoop
-with_gone framing core clients gone = record { framing = framing; side = with_clients core clients gone; asking = []; ended = []; left = []; closing = []; looked_up = []; waits = [] }
+abbrev pub with_gone : Manner → GatewayValue → List (Option ClientValue) → List ClientValue → WholeLoop
+with_gone manner core clients gone = record { manner = manner; side = with_clients core clients gone; asking = []; ended = []; kept = []; left = []; closing = []; looked_up = []; waits = [] }
+
+-- .. without clients, whose jobs ended so, and which keeps these streams
+abbrev pub with_kept : Manner → GatewayValue → List EndedValue → List KeptValue → WholeLoop
+with_kept manner core ended kept = record (with_gone manner core [] []) { ended = ended; kept = kept }

@@ -1,6 +1,6 @@
 //! The worked rows of a loop: what explains a client and what does not, whose connections are, when it drains, which
-//! moments and results are handed in, how exchanges end, how a history goes on, whose streams are, and when a loop
-//! rests. Nothing of it runs.
+//! moments and results are handed in, how exchanges end, how a history goes on, whose streams are and which are kept,
+//! and when a loop rests. Nothing of it runs.
 #![tactic(auto)]
 
 mod rows_of_accounts;

@@ -6,4 +6,4 @@ use Rattle.connect_codec.proofs.branch.branch_request.Goals as goal
 
 pub returns : goal.returns
 returns c =
-    rw (← branch_request_ends (call_of c.args.ask.now) _ _ _ c.in_ok-head.ensures (sym (append-nil c.in_ok-head.head)) c.in_ok-field.ensures) c.end.ensures
+    rw (← branch_request_ends (call_of c.args.ask.now) _ _ c.in_ok-head.ensures (sym (append-nil c.in_ok-head.head))) c.end.ensures

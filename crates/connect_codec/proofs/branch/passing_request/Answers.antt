@@ -6,4 +6,4 @@ use Rattle.connect_codec.proofs.branch.passing_request.Goals as goal
 pub returns : goal.returns
 returns c =
     let call = call_passing (fields_passed c.args.passed.now) c.args.ask.now in
-    rw (← branch_request_ends call _ _ _ c.in_ok-head.ensures c.in_ok-pass_on.ensures c.in_ok-field.ensures) c.end.ensures
+    rw (← branch_request_ends call _ _ c.in_ok-head.ensures c.in_ok-pass_on.ensures) c.end.ensures

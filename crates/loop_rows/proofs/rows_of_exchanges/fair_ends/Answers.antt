@@ -1,39 +1,41 @@
 use Rattle.std.proofs.Common.{[], ◌∷◌, append-nil, inl, refl, sym, ◌∙◌}
-use Rattle.std.proofs.lemmas.List.Elements.{All-cons}
-use Rattle.loop_model.specs.Asking.{IsUntouched, request_of}
+use Rattle.loop_model.specs.Asking.{IsUntouched}
+use Rattle.loop_model.specs.Requests.{request_of}
+use Rattle.loop_model.specs.Shares.{IsStreamFor}
 use Rattle.loop_rows.specs.LoopRows.{new_stream, talk}
-use Rattle.loop_model.specs.Streams.{StreamValue}
-use Rattle.loop_rows.proofs.ExchangeLemmas.{IsNew, all_one, answered_by, begins_so, begins_with_p, prefix_of, found_last, lost_by, lost_by_refusal, no_more, no_some, none_written, not_whole, some_is}
+use Rattle.loop_model.specs.Streams.{IsNew}
+use Rattle.loop_rows.proofs.ExchangeLemmas.{all_one, answered_by, begins_so, begins_with_p, prefix_of, found_last, is_for_any, lost_by, lost_by_refusal, no_more, no_some, none_written, not_whole, some_is}
 use Rattle.loop_rows.proofs.rows_of_exchanges.fair_ends.Goals as goal
 
 pub returns-clause-answered : goal.returns-clause-answered
-returns-clause-answered c f a j reply given rest cut = answered_by f a j given reply rest cut
+returns-clause-answered c m a j reply given rest cut = answered_by m a j given reply rest cut
 
 pub returns-clause-lost : goal.returns-clause-lost
-returns-clause-lost c f a j given none = lost_by f a j given (λ reply rest whole. not_whole reply rest (c.reply_cut_law.ensures.unique f given _ _ none whole))
+returns-clause-lost c m a j given none = lost_by m a j given (λ reply rest whole. not_whole reply rest (c.reply_cut_law.ensures.unique m.framing given _ _ none whole))
 
 pub returns-clause-refused : goal.returns-clause-refused
-returns-clause-refused c f a j fault given cut = lost_by_refusal f a j given (c.reply_cut_law.ensures.unique f) fault cut
+returns-clause-refused c m a j fault given cut = lost_by_refusal m a j given (c.reply_cut_law.ensures.unique m.framing) fault cut
 
 pub returns-clause-unwritten : goal.returns-clause-unwritten
-returns-clause-unwritten c f a j given front more b is = record {
-  begun = begins_so a j (talk front given) (prefix_of (request_of j) front (b ∷ more) is);
+returns-clause-unwritten c m a j given front more b is = record {
+  begun = begins_so m a j (talk front given) (prefix_of (request_of m j) front (b ∷ more) is);
   outcome = λ o same. inl (sym (some_is _ o same), λ whole. absurd (no_more front more b (sym (append-nil front) ∙ whole ∙ is)));
 }
 
 pub returns-clause-no_memory : goal.returns-clause-no_memory
-returns-clause-no_memory c f a j given front more is = record {
-  begun = begins_so a j (talk front given) (prefix_of (request_of j) front more is);
+returns-clause-no_memory c m a j given front more is = record {
+  begun = begins_so m a j (talk front given) (prefix_of (request_of m j) front more is);
   outcome = λ o none. absurd (no_some o none);
 }
 
 pub returns-clause-another_tried : goal.returns-clause-another_tried
-returns-clause-another_tried c f a j = record {
+returns-clause-another_tried c m a j = record {
   begun = record {
-    new = All-cons IsNew (new_stream a []) (new_stream a [] ∷ []) refl (all_one IsNew (new_stream a []) refl);
+    new = all_one IsNew (new_stream a []) refl;
     untouched = all_one IsUntouched (new_stream a []) (refl, refl);
-    prefix = (request_of j, refl);
+    goes_over = all_one (IsStreamFor m j.address) (new_stream a []) (is_for_any m j.address a []);
+    prefix = (request_of m j, refl);
     addressed = found_last a j (new_stream a [] ∷ []) [];
   };
-  outcome = λ o same. inl (sym (some_is _ o same), λ whole. absurd (none_written (request_of j) (begins_with_p j) (sym whole)));
+  outcome = λ o same. inl (sym (some_is _ o same), λ whole. absurd (none_written (request_of m j) (begins_with_p m j) (sym whole)));
 }

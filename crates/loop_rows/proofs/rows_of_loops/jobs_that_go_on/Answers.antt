@@ -8,10 +8,10 @@ use Rattle.loop_rows.proofs.LostLemmas.{alone, goes_on, more_turns, side_on}
 use Rattle.loop_rows.proofs.rows_of_loops.jobs_that_go_on.Goals as goal
 
 pub returns-clause-more : goal.returns-clause-more
-returns-clause-more c h f v j turns more =
+returns-clause-more c h m v j turns more =
     let y : AskingValue = asked h j [] (turns ++ more) in record {
-      framing = refl;
-      side = side_on f v [] [] (j ∷ []) (goes_on _);
+      manner = refl;
+      side = side_on m v [] [] (j ∷ []) (goes_on _);
       asking = λ i x is.
           let a = alone i (asked h j [] turns) x is in
           (y, inl (ap (λ n. asked_at n (Some y ∷ [])) a.0), subst (λ t. AsksOn t y) a.1 (more_turns h j turns more));
@@ -21,10 +21,10 @@ returns-clause-more c h f v j turns more =
     }
 
 pub returns-clause-another : goal.returns-clause-another
-returns-clause-another c h f v j got =
+returns-clause-another c h m v j got =
     let y : AskingValue = asked h j (new_stream h [] ∷ []) (Went got ∷ []) in record {
-      framing = refl;
-      side = side_on f v [] [] (j ∷ []) (goes_on _);
+      manner = refl;
+      side = side_on m v [] [] (j ∷ []) (goes_on _);
       asking = λ i x is.
           let a = alone i (asking j) x is in (
             y,
@@ -37,10 +37,10 @@ returns-clause-another c h f v j got =
     }
 
 pub returns-clause-over : goal.returns-clause-over
-returns-clause-over c h f v j turns more o history =
+returns-clause-over c h m v j turns more o history =
     let y : AskingValue = asked h j [] (turns ++ more) in record {
-      framing = refl;
-      side = side_on f v [] ((j, o) ∷ []) (j ∷ []) history;
+      manner = refl;
+      side = side_on m v [] ((j, o) ∷ []) (j ∷ []) history;
       asking = λ i x is.
           let a = alone i (asked h j [] turns) x is in
           (y, inr record { before = []; outcome = o; after = []; ended_are = refl }, subst (λ t. AsksOn t y) a.1 (more_turns h j turns more));

@@ -6,7 +6,7 @@ use Rattle.loop_rows.specs.LoopRows.{asked_at_peer}
 use Rattle.loop_rows.proofs.rows_of_loops.other_addresses.Goals as goal
 
 pub returns-clause-elsewhere : goal.returns-clause-elsewhere
-returns-clause-elsewhere c f v j b other a =
+returns-clause-elsewhere c m v j b other a =
     let goes = (a.begun 0 (asked_at_peer b [] j) refl).addressed in
     ⊎_elim
     (λ own. other (subst (λ (t : SocketAddr). IsSocketText j.address t) (sym (one_first b own.0 goes.later [] own.2)) own.1))
@@ -14,7 +14,7 @@ returns-clause-elsewhere c f v j b other a =
     goes.in_order
 
 pub returns-clause-order : goal.returns-clause-order
-returns-clause-order c f v j x b other apart a =
+returns-clause-order c m v j x b other apart a =
     let goes = (a.begun 0 (asked_at_peer b (x ∷ b ∷ []) j) refl).addressed in
     ⊎_elim
     (λ own. other (subst (λ (t : SocketAddr). IsSocketText j.address t) (sym (one_first b own.0 goes.later [] own.2)) own.1))

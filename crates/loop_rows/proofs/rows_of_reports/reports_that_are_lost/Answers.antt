@@ -16,7 +16,7 @@ nobody_gone : (y : ClientValue) → Contains [] y → ⊥
 nobody_gone y e = search arith
 
 pub returns-clause-lost : goal.returns-clause-lost
-returns-clause-lost c v s =
+returns-clause-lost c m v s =
     let a = s.side.clients 0 (told_client (readable 0) (client_of 0)) refl in
     ⊎_elim
     (λ here. omega (
@@ -29,7 +29,7 @@ returns-clause-lost c v s =
     a.1
 
 pub returns-clause-of_a_job : goal.returns-clause-of_a_job
-returns-clause-of_a_job c h v j s =
+returns-clause-of_a_job c h m v j s =
     let x : AskingValue = asked h j [] [] in
     let a = s.asking 0 (told_asking (readable 1) x) refl in
     ⊎_elim
@@ -40,5 +40,5 @@ returns-clause-of_a_job c h v j s =
     (λ more. omega (arith, ap (λ (y : AskingValue). length y.reported) is, ap (λ (l : List Ready). length l) more.1, length-append (readable 1 ∷ []) more.0)) k.reported)
     (λ g. omega (arith, ap (λ (y : AskingValue). length y.tried) is, ap (λ l. length l) g.tried_are))
     a.2.streams)
-    (λ e. nothing_since (tell (readable 1) (loop_with v [] (Some x ∷ []))) (loop_with v [] (Some x ∷ [])) a.0 refl e)
+    (λ e. nothing_since (tell (readable 1) (loop_with m v [] (Some x ∷ []))) (loop_with m v [] (Some x ∷ [])) a.0 refl e)
     a.1

@@ -1,5 +1,5 @@
 use Rattle.std.proofs.Common.{◌≡◌, ◌∷◌, append-nil, ap, ℕ, Bool, List, [], Option, Some, None, arith, inl, refl, subst, sym, ◌∙◌, true, false}
-use Rattle.loop_model.specs.Asking.{request_of}
+use Rattle.loop_model.specs.Requests.{request_of}
 use Rattle.loop_model.specs.Rest.{AtMost}
 use Rattle.loop_rows.proofs.RowLemmas.{off_on}
 use Rattle.loop_rows.proofs.rows_of_rest.rests_of_streams.Goals as goal
@@ -36,24 +36,24 @@ pub returns-clause-for_reads : goal.returns-clause-for_reads
 returns-clause-for_reads c s until r = off_on (writes_are (0, false) (0, true) r.watched)
 
 pub returns-clause-job : goal.returns-clause-job
-returns-clause-job c a s until j wanted none = record {
+returns-clause-job c m a s until j wanted none = record {
   wanted = wanted;
   goes_on = refl;
   limited = (subst (λ (l : Option ℕ). AtMost until l) (sym none) tt, tt);
-  watched = λ there. (false, refl, λ unsent. absurd (unsent (append-nil (request_of j))));
+  watched = λ there. (false, refl, λ unsent. absurd (unsent (append-nil (request_of m j))));
   unread = λ some. refl;
   unsent = λ unsent. refl;
 }
 
 pub returns-clause-job_unwatched : goal.returns-clause-job_unwatched
-returns-clause-job_unwatched c a s until j got r = let w = r.watched refl in nothing_there (3, w.0) w.1
+returns-clause-job_unwatched c m a s until j got r = let w = r.watched refl in nothing_there (3, w.0) w.1
 
 pub returns-clause-jobs_of_another : goal.returns-clause-jobs_of_another
-returns-clause-jobs_of_another c a s until j got r = let w = r.watched refl in let same = token_is (1, true) (3, w.0) w.1 in omega (arith, same)
+returns-clause-jobs_of_another c m a s until j got r = let w = r.watched refl in let same = token_is (1, true) (3, w.0) w.1 in omega (arith, same)
 
 pub returns-clause-job_for_reads : goal.returns-clause-job_for_reads
-returns-clause-job_for_reads c a s until j r =
-    let w = r.watched refl in by_it (request_of j) (λ unsent. writes_are (3, false) (3, w.0) w.1 ∙ w.2 unsent)
+returns-clause-job_for_reads c m a s until j r =
+    let w = r.watched refl in by_it (request_of m j) (λ unsent. writes_are (3, false) (3, w.0) w.1 ∙ w.2 unsent)
   where
     by_it : (request : List ℕ) → (([] ≡ request → ⊥) → false ≡ true) → request ≡ []
     by_it [] unsent = refl
@@ -63,4 +63,4 @@ returns-clause-job_for_reads c a s until j r =
         nothing b bs e = cc
 
 pub returns-clause-slept_over : goal.returns-clause-slept_over
-returns-clause-slept_over c a s j got r = let late = r.limited.1 in omega (arith, late)
+returns-clause-slept_over c m a s j got r = let late = r.limited.1 in omega (arith, late)

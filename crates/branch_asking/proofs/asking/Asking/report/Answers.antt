@@ -6,5 +6,5 @@ use Rattle.branch_asking.proofs.asking.Asking.report.Goals as goal
 pub invariant_of-self : goal.invariant_of-self
 invariant_of-self g c =
     let i = c.self.inside in
-    subst (λ (x : AttemptValue). HasBegun (asking_state i.framing i.job i.addresses x i.end i.tried.items)) (sym c.report.ensures)
-    (begun_noted i.framing i.job i.addresses i.attempt c.args.ready i.end i.tried.items c.self.invariant)
+    subst (λ (x : AttemptValue). HasBegun (asking_state i.manner i.job i.addresses x i.end i.tried.items)) (sym c.report.ensures)
+    (begun_noted i.manner i.job i.addresses i.attempt c.args.ready i.end i.tried.items c.self.invariant)

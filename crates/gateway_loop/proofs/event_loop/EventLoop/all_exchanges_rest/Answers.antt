@@ -15,7 +15,7 @@ returns-clause-rests g c =
     let all = entries i.asking in
     let each = all_from_yields_List rests _ _ c.all.result c.all.ensures.ran (YieldsList-from_first (λ item. (item.0, item.1.now)) (λ rest. rest) all c.iter-asking.ensures.rest) (λ x b q k. search (rules, tests)) in
     rw (← c.self.view_is)
-    (λ yes. all_asking s c.args.until i.asking.slots (λ j x is. (c.self.invariant.0.begun j x is).prefix) (λ j x is. (c.self.invariant.1 j x is).1) (λ j x is. subst (λ (n : ℕ). rests_asking s c.args.until n x ≡ true) (omega arith)
+    (λ yes. all_asking i.manner s c.args.until i.asking.slots (λ j x is. (c.self.invariant.0.begun j x is).prefix) (λ j x is. (c.self.invariant.1 j x is).0) (λ j x is. (c.self.invariant.1 j x is).1) (λ j x is. subst (λ (n : ℕ). rests_asking s c.args.until n x ≡ true) (omega arith)
     (both_true _ _ (all_there rests 0 i.asking.slots (sym each ∙ yes) j x is)).0))
 
 pub returns-clause-named : goal.returns-clause-named

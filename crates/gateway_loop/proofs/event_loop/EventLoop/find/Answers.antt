@@ -1,6 +1,6 @@
 use Rattle.gateway_loop.proofs.Words.{List, Option, ap, sym, whole_loop, AskingValue, beside, map}
 use Rattle.gateway_loop.specs.Loop.{found_asking}
-use Rattle.gateway_loop.proofs.AskLemmas.{finds_put, found_asked, goes_put, goes_same}
+use Rattle.gateway_loop.proofs.AskLemmas.{finds_put, found_asked, goes_put, goes_same, shares_stay}
 use Rattle.gateway_loop.proofs.Places.{put_set}
 use Rattle.gateway_loop.proofs.TellLemmas.{asking_changed, asking_same}
 use Rattle.gateway_loop.proofs.event_loop.EventLoop.find.Goals as goal
@@ -12,9 +12,9 @@ invariant_of-self g c =
     let there = rw (← c.self.view_is) at c.requires.there in
     elim c.match-get_mut.branch [
       | in-Some w ↦ rw w.self-inside-is
-          (finds_put i.framing (map (λ s. s.0.stream) i.left.items) (map (λ f. f.0) i.looked_up.items) i.clients i.asking.slots _ i.ended.items c.args.place w.in-Some.asking.now w.find.new.self (sym w.in-Some.ensures.value)
-          w.find.ensures.job w.find.ensures.framing c.args.looked_up.now c.args.first.items (rw w.name.ensures at w.find.ensures.own) (rw w.name.ensures at w.find.ensures.found) there c.requires.first
-          (put_set i.asking.slots c.args.place w.in-Some.asking.now w.find.new.self (sym w.in-Some.ensures.value)) w.begun_law.ensures.begun w.begun_law.ensures.untouched c.self.invariant)
+          (finds_put i.manner i.kept (map (λ s. s.0.stream) i.left.items) (map (λ f. f.0) i.looked_up.items) i.clients i.asking.slots _ i.ended.items c.args.place w.in-Some.asking.now w.find.new.self (sym w.in-Some.ensures.value)
+          w.find.ensures.job w.find.ensures.manner c.args.looked_up.now c.args.first.items (rw w.name.ensures at w.find.ensures.own) (rw w.name.ensures at w.find.ensures.found) there c.requires.first
+          (put_set i.asking.slots c.args.place w.in-Some.asking.now w.find.new.self (sym w.in-Some.ensures.value)) w.begun_law.ensures.begun w.begun_law.ensures.untouched (shares_stay w.in-Some.asking.now w.find.new.self w.find.ensures.streams) c.self.invariant)
       | in_default w ↦ rw w.self-inside-is c.self.invariant
     ]
 
@@ -22,7 +22,7 @@ pub returns-clause-exact : goal.returns-clause-exact
 returns-clause-exact g c =
     let i = c.self.inside in
     let name = c.args.looked_up.now.name in
-    let with_asking = λ (asking : List (Option AskingValue)). record (whole_loop i.framing i.clients i.asking.slots i.ended.items (beside (map (λ s. s.0.stream) i.left.items) i.closing (map (λ f. f.0) i.looked_up.items) i.names)) { asking = asking } in
+    let with_asking = λ (asking : List (Option AskingValue)). record (whole_loop i.manner i.clients i.asking.slots i.ended.items (beside i.kept (map (λ s. s.0.stream) i.left.items) i.closing (map (λ f. f.0) i.looked_up.items) i.names)) { asking = asking } in
     rw (← c.self.view_is) (elim c.match-get_mut.branch [
       | in-Some w ↦ rw w.self-inside-is
           (ap with_asking
@@ -36,7 +36,7 @@ returns-clause-goes g c =
     let i = c.self.inside in
     rw (← c.self.view_is) (elim c.match-get_mut.branch [
       | in-Some w ↦ rw w.self-inside-is (λ a.
-          goes_put i.asking.slots _ c.args.place i.framing i.clients i.ended.items (beside (map (λ s. s.0.stream) i.left.items) i.closing (map (λ f. f.0) i.looked_up.items) i.names) w.in-Some.asking.now w.find.new.self (sym w.in-Some.ensures.value)
+          goes_put i.asking.slots _ c.args.place i.manner i.clients i.ended.items (beside i.kept (map (λ s. s.0.stream) i.left.items) i.closing (map (λ f. f.0) i.looked_up.items) i.names) w.in-Some.asking.now w.find.new.self (sym w.in-Some.ensures.value)
           (put_set i.asking.slots c.args.place w.in-Some.asking.now w.find.new.self (sym w.in-Some.ensures.value)) w.find.ensures.on w.find.ensures.streams a)
       | in_default w ↦ rw w.self-inside-is (λ a. goes_same _)
     ])

@@ -10,4 +10,4 @@ returns-then-len-ge-MOST_EXCHANGES g c =
 pub returns : goal.returns
 returns g c =
     let i = c.self.inside in
-    rw (← c.self.view_is) (λ none. none_waits (whole_loop i.framing i.clients i.asking.slots i.ended.items (beside (map (λ s. s.0.stream) i.left.items) i.closing (map (λ f. f.0) i.looked_up.items) i.names)) c.core.result.now c.waiting_jobs.result c.core.ensures c.waiting_jobs.ensures none)
+    rw (← c.self.view_is) (λ none. none_waits (whole_loop i.manner i.clients i.asking.slots i.ended.items (beside i.kept (map (λ s. s.0.stream) i.left.items) i.closing (map (λ f. f.0) i.looked_up.items) i.names)) c.core.result.now c.waiting_jobs.result c.core.ensures c.waiting_jobs.ensures none)

@@ -1,5 +1,5 @@
 use Rattle.gateway_loop.proofs.Words.{ap, sym, AskingState, beside, map}
-use Rattle.gateway_loop.proofs.AskLemmas.{goes_put, goes_same, keeps_put, same_streams}
+use Rattle.gateway_loop.proofs.AskLemmas.{goes_put, goes_same, keeps_put, same_streams, shares_stay}
 use Rattle.gateway_loop.proofs.Places.{put_set}
 use Rattle.gateway_loop.proofs.event_loop.EventLoop.note_loss.Goals as goal
 use Rattle.gateway_loop.proofs.event_loop.EventLoop.note_loss.Goals.{in-Some, in_default}
@@ -9,9 +9,9 @@ invariant_of-self g c =
     let i = c.self.inside in
     elim c.match-get_mut.branch [
       | in-Some w ↦ rw w.self-inside-is
-          (keeps_put i.framing (map (λ s. s.0.stream) i.left.items) (map (λ f. f.0) i.looked_up.items) i.clients i.asking.slots _ i.ended.items c.args.place w.in-Some.asking.now w.lose.new.self (sym w.in-Some.ensures.value)
-          w.lose.ensures.job w.lose.ensures.framing w.lose.ensures.found
-          (put_set i.asking.slots c.args.place w.in-Some.asking.now w.lose.new.self (sym w.in-Some.ensures.value)) w.begun_law.ensures.begun w.begun_law.ensures.untouched c.self.invariant)
+          (keeps_put i.manner i.kept (map (λ s. s.0.stream) i.left.items) (map (λ f. f.0) i.looked_up.items) i.clients i.asking.slots _ i.ended.items c.args.place w.in-Some.asking.now w.lose.new.self (sym w.in-Some.ensures.value)
+          w.lose.ensures.job w.lose.ensures.manner w.lose.ensures.found
+          (put_set i.asking.slots c.args.place w.in-Some.asking.now w.lose.new.self (sym w.in-Some.ensures.value)) w.begun_law.ensures.begun w.begun_law.ensures.untouched (shares_stay w.in-Some.asking.now w.lose.new.self w.lose.ensures.streams) c.self.invariant)
       | in_default w ↦ rw w.self-inside-is c.self.invariant
     ]
 
@@ -21,7 +21,7 @@ returns g c =
     record {
       goes = rw (← c.self.view_is) (elim c.match-get_mut.branch [
         | in-Some w ↦ rw w.self-inside-is (λ a.
-            goes_put i.asking.slots _ c.args.place i.framing i.clients i.ended.items (beside (map (λ s. s.0.stream) i.left.items) i.closing (map (λ f. f.0) i.looked_up.items) i.names) w.in-Some.asking.now w.lose.new.self (sym w.in-Some.ensures.value)
+            goes_put i.asking.slots _ c.args.place i.manner i.clients i.ended.items (beside i.kept (map (λ s. s.0.stream) i.left.items) i.closing (map (λ f. f.0) i.looked_up.items) i.names) w.in-Some.asking.now w.lose.new.self (sym w.in-Some.ensures.value)
             (put_set i.asking.slots c.args.place w.in-Some.asking.now w.lose.new.self (sym w.in-Some.ensures.value)) w.lose.ensures.on w.lose.ensures.streams a)
         | in_default w ↦ rw w.self-inside-is (λ a. goes_same _)
       ]);

@@ -9,4 +9,4 @@ returns-clause-goes g c =
       | then-is_restless w ↦ rw (w.self-is, w.net-is) w.serve_restless.ensures.goes
       | else-is_restless w ↦ rw (w.self-is, w.net-is) (goes_same _)
     ] in
-    goes_then _ _ _ c.serve_ready.ensures.goes (goes_then _ _ _ served (goes_then _ _ _ c.close_due.ensures.goes c.settle.ensures.goes))
+    goes_then _ _ _ c.serve_ready.ensures.goes (goes_then _ _ _ served (goes_then _ _ _ c.close_due.ensures.goes (goes_then _ _ _ c.expire_kept.ensures.goes c.settle.ensures.goes)))
