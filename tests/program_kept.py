@@ -9,9 +9,10 @@ import struct
 import threading
 import time
 
-from program_admin import drain
+from program_admin import drain, figures
+from program_log import branches_told
 from program_room import (
-    CASE_TIME, DONE, WAIT, Wrong, at_once, call, client, expect, free_port, is_quiet, listener, long_listener, plan, read_message,
+    CASE_TIME, DONE, WAIT, Wrong, at_once, call, client, expect, free_port, is_quiet, listener, listens, long_listener, plan, read_message,
     read_reply, read_to, reply, stopped,
 )
 
@@ -32,6 +33,18 @@ def served(room, backend, seconds=5, streams=1, words=(), workers=1, **how):
     """The gateway before that backend, whose connections it keeps for so long."""
     plans = plan([backend.getsockname()[1]], 1, **how)
     return room.serve(plans, workers=workers, streams=streams, words=["--keep", str(seconds), *words])
+
+
+def asked_again(backend, stream):
+    """The connection to the backend over which a call was answered, and the request of the next one has come."""
+    call(stream)
+    asked = backend.accept()[0]
+    read_message(asked)
+    asked.sendall(reply("1"))
+    expect("the reply", read_reply(stream), ONE)
+    call(stream)
+    read_message(asked)
+    return asked
 
 
 def expect_next_anew(backend, stream):
@@ -187,17 +200,91 @@ def case_kept_asks_once(room):
     with listener() as backend:
         run, port = served(room, backend)
         with client(port) as stream:
-            call(stream)
-            with backend.accept()[0] as asked:
-                read_message(asked)
-                asked.sendall(reply("1"))
-                expect("the reply", read_reply(stream), ONE)
-                call(stream)
-                read_message(asked)
+            asked_again(backend, stream).close()
             expect("the reply to the one that was lost", read_reply(stream), LOST)
             expect("whether the backend was asked again", is_quiet(backend), True)
             expect_next_anew(backend, stream)
     room.ends("the program", run, DONE)
+
+
+def case_kept_and_late_408(room):
+    """with --keep a 408 over a used connection is told to nobody, since it may have come before the request"""
+    late = b"HTTP/1.1 408 Request Timeout\r\nContent-Type: application/json\r\nContent-Length: 23\r\n\r\n{\"code\":\"unauthorized\"}"
+    with listener() as backend:
+        run, port = served(room, backend)
+        with client(port) as stream:
+            with asked_again(backend, stream) as asked:
+                asked.sendall(late)
+                expect("the reply to the one that a 408 came for", read_reply(stream), LOST)
+                expect("what the backend sees", read_to(asked, 1), b"")
+            expect_next_anew(backend, stream)
+    room.ends("the program", run, DONE)
+
+
+def case_kept_not_behind_a_login(room):
+    """with --keep a connection is not used again over which a caller has logged in by NTLM or Negotiate"""
+    logins = ["NTLM TlRMTVNTUAAB", "negotiate YII", "Negotiate", "nTlM"]
+    others = ["Bearer NTLM", "Basic TlRMTQ==", "Ntl", ""]
+    with listener() as backend:
+        port = backend.getsockname()[1]
+        branch = {"name": "b0", "address": f"127.0.0.1:{port}", "path": "/"}
+        plans = [
+            {"path": "/passes", "limit": 1, "branches": [{**branch, "pass": ["authorization"]}]},
+            {"path": "/keeps", "limit": 1, "branches": [branch]},
+        ]
+        run, port = room.serve(json.dumps(plans).encode(), streams=1, words=["--keep", "60"])
+        with client(port) as stream, contextlib.ExitStack() as opened:
+            asked = None
+            rows = [("/passes", value, value in logins) for value in logins + others + logins]
+            rows += [("/keeps", value, False) for value in logins]
+            for path, value, ends in rows:
+                call(stream, f"Authorization: {value}\r\n", path=path)
+                asked = asked or opened.enter_context(backend.accept()[0])
+                head, _ = read_message(asked)
+                expect("whether it is passed on", b"\r\nauthorization: " in head, path == "/passes")
+                asked.sendall(reply("1"))
+                expect("the reply", read_reply(stream), ONE)
+                if ends:
+                    expect(f"what the backend sees behind {value}", read_to(asked, 1), b"")
+                    asked = None
+    room.ends("the program", run, DONE)
+
+
+def case_kept_in_figures_and_log(room):
+    """with --keep figures and log tell which connections were used again, and why others were closed"""
+    with listener() as backend:
+        admin = free_port()
+        run, port = served(room, backend, 1, streams=1, words=["--admin", f"127.0.0.1:{admin}", "--log", "all"])
+        expect("how long connections are kept, by the log", listens(run.stderr)[-1]["keep"], 1)
+        with client(port) as stream:
+            call(stream)
+            asked = backend.accept()[0]
+            for number in range(3):
+                if number:
+                    call(stream)
+                read_message(asked)
+                asked.sendall(reply("1"))
+                expect("the reply", read_reply(stream), ONE)
+            # its end, and then bytes that nobody asked for
+            for last in (b"", b"H"):
+                asked.sendall(last)
+                asked.shutdown(socket.SHUT_WR)
+                expect("what the backend sees", read_to(asked, 1).replace(b" (reset)", b""), b"")
+                call(stream)
+                asked = backend.accept()[0]
+                read_message(asked)
+                asked.sendall(reply("1"))
+                expect("the reply", read_reply(stream), ONE)
+            expect("what the backend sees at the end of its time", read_to(asked, 1), b"")
+            time.sleep(0.05)
+            name = "connect_gateway_backend_connections_total"
+            wanted = {"opened": 3, "used again": 2, "ended by backend": 1, "unasked bytes": 1, "time over": 1, "place needed": 0}
+            told = figures(admin)
+            expect("the figures", {event: told[name, event] for event in wanted}, wanted)
+            expect("those that are kept now", told["connect_gateway_kept_connections", "0"], 0)
+        lines = run.communicate(timeout=WAIT)[1]
+    expect("what the log tells", [line.get("reused") for line in branches_told(lines)], [None, True, True, None, None])
+    expect("the status", run.returncode, 0)
 
 
 def case_kept_given_up(room):

@@ -1,5 +1,5 @@
 -- What was written of an object's members is the text of the object, and reads back as it.
-use Rattle.std.proofs.Common.{◌≡◌, ℕ, ◌^◌, ◌<◌, ◌≤◌, List, [], ◌∷◌, ◌++◌, Some, option_map, option_and_then}
+use Rattle.std.proofs.Common.{◌≡◌, ℕ, true, ◌^◌, ◌<◌, ◌≤◌, List, [], ◌∷◌, ◌++◌, Some, option_map, option_and_then}
 use Rattle.std.proofs.Common.{refl, sym, ap, ◌∙◌, arith, append_assoc, append-nil}
 use Rattle.json.specs.Token.{Token}
 use Rattle.json.specs.Token as token
@@ -10,7 +10,7 @@ use Rattle.json.specs.Tree.{json_tokens, members_tokens}
 use Rattle.json.specs.Tree as tree
 use Rattle.json.specs.Written.{Written}
 use Rattle.json.proofs.Printed.Trees.{value-json_tokens}
-use Rattle.serde_json.specs.Data.{Data, Members, no_members, member, null, number, string, unsigned, object, put}
+use Rattle.serde_json.specs.Data.{Data, Members, boolean, no_members, member, null, number, string, unsigned, object, put}
 use Rattle.serde_json.specs.Read.{of_json, of_members, max_depth, read}
 use Rattle.serde_json.specs.Written.{outline, members_outline, compact_text}
 use Rattle.serde_json.proofs.Numbers.{number_of-decimal}
@@ -19,6 +19,9 @@ use Rattle.access_log.specs.Members.{and_member, all_put, front, IsLeaf, AreLeav
 
 pub leaf_text : (s : List ℕ) → IsLeaf (string s)
 leaf_text s = record { reads = refl; flat = refl }
+
+pub leaf_true : IsLeaf (boolean true)
+leaf_true = record { reads = refl; flat = refl }
 
 pub leaf_null : IsLeaf null
 leaf_null = record { reads = refl; flat = refl }

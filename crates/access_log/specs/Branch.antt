@@ -1,7 +1,7 @@
 -- The line of the log for a branch whose backend was asked.
-use Rattle.std.specs.Prelude.{ℕ, List, codes, Option, Bool, true}
+use Rattle.std.specs.Prelude.{ℕ, List, codes, Option, Bool, true, false}
 use Rattle.std.specs.Option.{option_copied}
-use Rattle.serde_json.specs.Data.{Data, number, unsigned, string, object, member, no_members}
+use Rattle.serde_json.specs.Data.{Data, Members, boolean, number, unsigned, string, object, member, no_members}
 use Rattle.serde_json.specs.Written.{compact_text}
 use Rattle.gateway_model.specs.declared.id.CallId.{CallId}
 use Rattle.branch_causes.specs.Causes.{cause_name}
@@ -25,6 +25,7 @@ pub record AskedBranch : Type 0 where
   pub cause : Cause
   pub status : Option ℕ
   pub request_id : Option (List ℕ)
+  pub is_reused : Bool
 
 abbrev pub asked_of : BranchAsked → AskedBranch
 asked_of asked = record {
@@ -36,7 +37,13 @@ asked_of asked = record {
   cause = asked.cause;
   status = asked.status;
   request_id = option_copied asked.request_id;
+  is_reused = asked.is_reused;
 }
+
+-- these members, and before them that the request went over a connection that was kept, if it did
+abbrev pub and_reused : Bool → Members → Members
+and_reused false members = members
+and_reused true members = member (codes "reused") (boolean true) members
 
 -- The document of a branch that a worker told at that time, in milliseconds from 1970. The keys are in byte order.
 abbrev pub branch_document : ℕ → ℕ → AskedBranch → Data
@@ -50,9 +57,10 @@ branch_document time worker asked =
     member (codes "path") (string asked.plan) (
     member (codes "request") (number (unsigned asked.call.request)) (
     member (codes "request_id") (text_or_null asked.request_id) (
+    and_reused asked.is_reused (
     member (codes "status") (number_or_null asked.status) (
     member (codes "time") (number (unsigned time)) (
-    member (codes "worker") (number (unsigned worker)) no_members)))))))))))
+    member (codes "worker") (number (unsigned worker)) no_members))))))))))))
 
 -- the line: the document as compact JSON, with no LF
 unfoldable pub branch_line : ℕ → ℕ → AskedBranch → List ℕ

@@ -1,4 +1,4 @@
--- An object in JSON that is written member after member, each a text, a number or null.
+-- An object in JSON that is written member after member, each a text, a number, true or null.
 use Rattle.std.specs.Prelude.{◌≡◌, ⊤, ℕ, List, [], ◌∷◌, ◌++◌, Some}
 use Rattle.json.specs.Token.{Token}
 use Rattle.json.specs.Token as token

@@ -19,5 +19,5 @@ pub use closed::{Unserved, closed_line};
 pub use ending::Ended;
 pub use line::{Caller, log_line};
 pub use standing::{Standing, standing_line};
-pub use start::{Remark, remark_line, start_line};
+pub use start::{Listening, Remark, remark_line, start_line};
 pub use told::{ended, path, status, taken};

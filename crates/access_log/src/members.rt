@@ -1,7 +1,7 @@
 //! The text of an object in JSON, member after member: what `serde_json` writes of the document that has them, without
 //! the document.
-ghost use Rattle.std.specs.Prelude.{◌≡◌, IfOk, OnOk, Some, option_map, string_bytes};
-ghost use Rattle.serde_json.specs.Data.{Members, no_members, null, number, object, string, unsigned};
+ghost use Rattle.std.specs.Prelude.{◌≡◌, IfOk, OnOk, Some, option_map, string_bytes, true};
+ghost use Rattle.serde_json.specs.Data.{Members, boolean, no_members, null, number, object, string, unsigned};
 ghost use Rattle.serde_json.specs.Read.{read};
 ghost use Rattle.serde_json.specs.Written.{compact_text};
 ghost use Rattle.access_log.specs.Leaves.{leaf_data, members_of};
@@ -20,6 +20,7 @@ const ROOM: usize = 320;
 pub(crate) enum Leaf<'a> {
     Text(&'a str),
     Number(u64),
+    True,
     Null,
 }
 
@@ -65,6 +66,7 @@ fn put(out: &mut Writer, key: &str, leaf: Leaf<'_>) -> Result<(), AllocError>
     match leaf {
         Leaf::Text(text) => put_text(out, key, text),
         Leaf::Number(n) => put_number(out, key, n),
+        Leaf::True => put_true(out, key),
         Leaf::Null => put_null(out, key),
     }
 }
@@ -94,6 +96,14 @@ fn put_number(out: &mut Writer, key: &str, n: u64) -> Result<(), AllocError>
 {
     out.key(key)?;
     out.u64(n)
+}
+
+fn put_true(out: &mut Writer, key: &str) -> Result<(), AllocError>
+    ensures { OnOk result ((ms : Members) → HasMembers ms out.old
+        → HasMembers (and_member ms key.now (boolean true)) out.new) }
+{
+    out.key(key)?;
+    out.boolean(true)
 }
 
 fn put_null(out: &mut Writer, key: &str) -> Result<(), AllocError>

@@ -8,6 +8,7 @@ mod asked;
 mod branch_counts;
 mod door;
 mod drain;
+mod kept;
 mod labels;
 mod loop_counts;
 mod metrics;
@@ -22,6 +23,7 @@ pub use answer::{
 pub use asked::{Asked, take_in};
 pub use door::Door;
 pub use drain::{Drain, Stage};
+pub use kept::KeptFigures;
 pub use loop_counts::LoopCounts;
 pub use metrics::{Figures, LoopFigures, metrics_text};
 pub use names::{BranchName, ServedNames};

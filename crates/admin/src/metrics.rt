@@ -1,3 +1,4 @@
+use crate::kept::KeptFigures;
 use crate::labels::{add_first, add_label, add_number, add_seconds};
 use crate::names::{BranchName, ServedNames};
 use crate::rejections::{REJECTIONS, Rejections, STATUSES};
@@ -23,6 +24,8 @@ pub struct LoopFigures {
     pub connections: u64,
     /// Exchanges with backends that are under way.
     pub exchanges: u64,
+    /// Connections to backends that are kept and not used now.
+    pub kept: u64,
 }
 
 /// All that is told.
@@ -36,6 +39,8 @@ pub struct Figures<'a> {
     pub asked: &'a [BranchTotals],
     /// Each loop, by its number.
     pub loops: &'a [LoopFigures],
+    /// What became of connections to backends; None where none is kept.
+    pub kept: Option<KeptFigures>,
     /// The replies to what is no call.
     pub rejections: &'a Rejections,
     /// How many streams were closed without a byte.
@@ -55,6 +60,10 @@ pub fn metrics_text(alloc: Global, figures: &Figures<'_>) -> Result<Bytes, Alloc
     add_asked(&mut text, figures)?;
     add_waits(&mut text, figures)?;
     add_loops(&mut text, figures.loops)?;
+    if let Some(kept) = &figures.kept {
+        add_kept(&mut text, kept)?;
+        add_kept_now(&mut text, figures.loops)?;
+    }
     add_closed(&mut text, figures.streams_closed)?;
     add_broken(&mut text, figures.connections_broken)?;
     add_left_out(&mut text, figures.lines_left_out)?;
@@ -218,6 +227,44 @@ fn add_loops(text: &mut Vec<u8>, loops: &[LoopFigures]) -> Result<(), AllocError
             "connect_gateway_backend_exchanges",
             worker,
             figures.exchanges,
+        )?;
+    }
+    Ok(())
+}
+
+/// Adds a line for each of these figures.
+fn add_kept(text: &mut Vec<u8>, figures: &KeptFigures) -> Result<(), AllocError> {
+    text.extend_from_slice(
+        b"# HELP connect_gateway_backend_connections_total Connections to backends: opened, used again, \
+          and closed while they were kept, by why.\n\
+          # TYPE connect_gateway_backend_connections_total counter\n",
+    )?;
+    let name = "connect_gateway_backend_connections_total";
+    for (event, count) in [
+        ("opened", figures.opened),
+        ("used again", figures.used),
+        ("time over", figures.expired),
+        ("ended by backend", figures.ended),
+        ("unasked bytes", figures.unasked),
+        ("place needed", figures.displaced),
+    ] {
+        add_first(text, name, "event", event.as_bytes())?;
+        add_number(text, count)?;
+    }
+    Ok(())
+}
+
+fn add_kept_now(text: &mut Vec<u8>, loops: &[LoopFigures]) -> Result<(), AllocError> {
+    text.extend_from_slice(
+        b"# HELP connect_gateway_kept_connections Connections to backends that are kept and not used now, by worker.\n\
+          # TYPE connect_gateway_kept_connections gauge\n",
+    )?;
+    for (worker, figures) in loops.iter().enumerate() {
+        add_of_worker(
+            text,
+            "connect_gateway_kept_connections",
+            worker,
+            figures.kept,
         )?;
     }
     Ok(())

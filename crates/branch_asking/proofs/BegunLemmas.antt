@@ -3,7 +3,7 @@ use Rattle.branch_asking.proofs.Words.{◌≡◌, ℕ, Bool, true, false, List, 
 use Rattle.std.proofs.lemmas.Bool.Decides.{nat_tests}
 use Rattle.std.proofs.Common.{arith, append-nil, append_assoc, length, take, drop, ◌⊎◌, ⊎_elim}
 use Rattle.std.specs.Option.{option_map_or}
-use Rattle.std.specs.Prelude.{IfSome, MatchOption, ◌||◌, not, option_map}
+use Rattle.std.specs.Prelude.{IfSome, MatchOption, ◌&&◌, ◌||◌, ◌==◌, if◌then◌else◌, not, option_map}
 use Rattle.std.proofs.lemmas.List.{length-append, nil_from_length, take-append-drop}
 use Rattle.gateway_theory.specs.lemmas.PastLemmas.{prefix-refl, prefix-trans}
 use Rattle.http_pieces.specs.declared.framing.Framing.{Framing}
@@ -13,8 +13,8 @@ use Rattle.branch_exchange.specs.declared.asked.Asked.{Asked}
 use Rattle.branch_exchange.specs.declared.asked.Asked.TheVariants.{Lost}
 use Rattle.connect_codec.specs.Outcome.{outcome_of}
 use Rattle.connect_codec.specs.declared.answer.Outcome.{Outcome}
-use Rattle.loop_model.specs.Asking.{AskingValue, IsAnswered, IsFair, IsUnanswered, ended_value}
-use Rattle.branch_asking.specs.Asking.{ended_by, noted_attempt, timed_attempt, watched_attempt}
+use Rattle.loop_model.specs.Asking.{AskingValue, IsAnswered, IsFair, IsUnanswered, ended_value, is_stray, is_used, is_used_by}
+use Rattle.branch_asking.specs.Asking.{ended_by, noted_attempt, own_end, timed_attempt, watched_attempt}
 use Rattle.branch_asking.proofs.StreamLemmas.{Follows, follows_another, goes_grown, grows_self, grows_then, kept_stream, new_follows, new_goes, news_of, none_new, peer_follows, peers_stay, ready_goes, same_self, still_given, still_got, still_open, streams_in, untouched_more}
 use Rattle.wires.specs.declared.ready.Ready.{Ready}
 use Rattle.wires.specs.Turns.{BringsWithin, TakesWithin, turns_of_read, turns_of_write}
@@ -23,6 +23,7 @@ use Rattle.wires.specs.declared.got.Sent.TheVariants as sent
 use Rattle.wires.specs.lemmas.Turns.{ReadMakes, ended-append, given-append, got-append, read_makes, write_makes}
 use Rattle.loop_model.specs.Whole.{IsSameIfThere}
 use Rattle.branch_exchange.specs.declared.exchange_end.Loss.{Loss}
+use Rattle.branch_exchange.specs.declared.exchange_end.Loss.TheVariants as loss
 use Rattle.branch_exchange.specs.declared.exchange_end.ExchangeEnd.{ExchangeEnd}
 use Rattle.branch_exchange.specs.declared.exchange_end.ExchangeEnd.TheVariants as ends
 use Rattle.http_pieces.specs.declared.reply.HttpReply.{HttpReply}
@@ -45,6 +46,10 @@ is_no_loss reply loss e = cc
 
 same_reply : (a b : HttpReply) → ends.Reply a ≡ ends.Reply b → a ≡ b
 same_reply a b e = cc
+
+and_false : (b : Bool) → (b && false) ≡ false
+and_false true = refl
+and_false false = refl
 
 some_end : (a b : ExchangeEnd) → Some a ≡ Some b → a ≡ b
 some_end a b e = cc
@@ -151,7 +156,7 @@ lost_ends framing request x y loss same none a = record {
   prefix = (x.exchange.left, sym a.sends ∙ ap (λ (g : List ℕ). g ++ x.exchange.left) (sym same));
   whole = λ reply replies. absurd (is_no_reply loss reply replies);
   alone = λ reply replies whole. absurd (is_no_reply loss reply replies);
-  unanswered = λ l is whole. subst (λ (g : List ℕ). HasNoReply framing g) (sym none) a.reads.unanswered;
+  unanswered = λ l is whole. inl (subst (λ (g : List ℕ). HasNoReply framing g) (sym none) a.reads.unanswered);
 }
 
 -- .. by turns that brought nothing, and took nothing
@@ -198,11 +203,53 @@ read_asks framing request e f s t connected until piece n left is within comes a
 nothing_left : (got left : List ℕ) → got ++ left ≡ got → left ≡ []
 nothing_left got left e = nil_from_length left (omega (arith, length-append got left, ap (λ (l : List ℕ). length l) e))
 
+-- so it ended, whatever stream it goes over
+record Came (framing : Framing) (request : List ℕ) (end : ExchangeEnd) (x : AttemptValue) : Type 0 where
+  pub prefix : IsPrefixOf (got_by x.stream) request
+  pub whole : (reply : HttpReply) → end ≡ ends.Reply reply → (got_by x.stream ≡ request) × BeginsWithReply framing (given_by x.stream) reply
+  pub alone : (reply : HttpReply) → end ≡ ends.Reply reply → x.exchange.alone ≡ true → IsReplyAlone framing (given_by x.stream) reply
+  pub unanswered : (loss : Loss) → end ≡ ends.Lost loss → got_by x.stream ≡ request → HasNoReply framing (given_by x.stream)
+
+-- what that counts as over a stream that jobs went over before, or not
+own_ends : (framing : Framing) (request : List ℕ) (used : Bool) (end : ExchangeEnd) (x : AttemptValue) → used ≡ is_used x.stream → Came framing request end x
+    → HasEnded framing request (own_end used end) x
+own_ends framing request used (ends.Reply reply) x same c = by_stray (used && (reply.status == 408)) refl
+  where
+    stray_is : (b : Bool) → (used && (reply.status == 408)) ≡ b → is_stray x.stream reply ≡ b
+    stray_is b is = ap (λ (u : Bool). u && (reply.status == 408)) (sym same) ∙ is
+
+    by_stray : (b : Bool) → (used && (reply.status == 408)) ≡ b → HasEnded framing request (own_end used (ends.Reply reply)) x
+    by_stray true is = subst (λ (t : Bool). HasEnded framing request (if t then ends.Lost loss.Early else ends.Reply reply) x) (sym is) record {
+      prefix = c.prefix;
+      whole = λ r replies. absurd (is_no_reply loss.Early r replies);
+      alone = λ r replies whole. absurd (is_no_reply loss.Early r replies);
+      unanswered = λ l lost whole. inr (reply, (c.whole reply refl).1, stray_is true is);
+    }
+    by_stray false is = subst (λ (t : Bool). HasEnded framing request (if t then ends.Lost loss.Early else ends.Reply reply) x) (sym is) record {
+      prefix = c.prefix;
+      whole = λ r replies.
+          let w = c.whole r replies in (w.0, w.1, subst (λ (q : HttpReply). is_stray x.stream q ≡ false) (same_reply reply r replies) (stray_is false is));
+      alone = λ r replies whole. c.alone r replies whole;
+      unanswered = λ l lost. absurd (is_no_loss reply l lost);
+    }
+own_ends framing request used (ends.Lost l) x same c = subst (λ (t : Bool). HasEnded framing request (if t then ends.Lost loss.Early else ends.Lost l) x) (sym (and_false used)) record {
+  prefix = c.prefix;
+  whole = λ r replies. absurd (is_no_reply l r replies);
+  alone = λ r replies whole. absurd (is_no_reply l r replies);
+  unanswered = λ m lost whole. inl (c.unanswered m lost whole);
+}
+own_ends framing request used ends.NoMemory x same c = subst (λ (t : Bool). HasEnded framing request (if t then ends.Lost loss.Early else ends.NoMemory) x) (sym (and_false used)) record {
+  prefix = c.prefix;
+  whole = λ r replies. absurd (no_reply r replies);
+  alone = λ r replies whole. absurd (no_reply r replies);
+  unanswered = λ m lost. absurd (no_loss m lost);
+}
+
 -- .. or it ended by that
-pub read_ends : (framing : Framing) (request : List ℕ) (e f : ExchangeValue) (s t : BackendValue) (connected : Bool) (until : Option ℕ) (piece : List ℕ) (n : ℕ) (end : ExchangeEnd)
+came_by : (framing : Framing) (request : List ℕ) (e f : ExchangeValue) (s t : BackendValue) (connected : Bool) (until : Option ℕ) (piece : List ℕ) (n : ℕ) (end : ExchangeEnd)
     → t.stream ≡ with_turns (turns_of_read piece (got.Bytes n)) s.stream → BringsWithin piece (got.Bytes n) → f.left ≡ e.left → ComesTo framing f (given_of s.stream.turns ++ take n piece) (Some end)
-    → Asks framing request (attempt_value e (Some s) connected until) → HasEnded framing request end (attempt_value f (Some t) true until)
-read_ends framing request e f s t connected until piece n end is within same comes a = record {
+    → Asks framing request (attempt_value e (Some s) connected until) → Came framing request end (attempt_value f (Some t) true until)
+came_by framing request e f s t connected until piece n end is within same comes a = record {
   prefix = (e.left, sym (ap (λ (g : List ℕ). g ++ e.left) makes.got ∙ a.sends));
   whole = λ reply is. whole_by end comes reply is;
   alone = λ reply is alone. alone_by end comes reply is alone;
@@ -235,6 +282,14 @@ read_ends framing request e f s t connected until piece n end is within same com
     unanswered_by (ends.Reply r) c loss is none = absurd (is_no_loss r loss is)
     unanswered_by (ends.Lost l) c loss is none = subst (λ (g : List ℕ). HasNoReply framing g) (sym makes.given.2) (c.1 none)
     unanswered_by ends.NoMemory c loss is none = absurd (no_loss loss is)
+
+pub read_ends : (framing : Framing) (request : List ℕ) (e f : ExchangeValue) (s t : BackendValue) (connected : Bool) (until : Option ℕ) (piece : List ℕ) (n : ℕ) (used : Bool) (end : ExchangeEnd)
+    → t.stream ≡ with_turns (turns_of_read piece (got.Bytes n)) s.stream → BringsWithin piece (got.Bytes n) → f.left ≡ e.left → used ≡ is_used_by s.stream.before
+    → ComesTo framing f (given_of s.stream.turns ++ take n piece) (Some end)
+    → Asks framing request (attempt_value e (Some s) connected until) → HasEnded framing request (own_end used end) (attempt_value f (Some t) true until)
+read_ends framing request e f s t connected until piece n used end is within same jobs comes a =
+    own_ends framing request used end (attempt_value f (Some t) true until) (jobs ∙ ap (λ (v : StreamValue). is_used_by v.before) (sym is))
+    (came_by framing request e f s t connected until piece n end is within same comes a)
 
 -- it is lost, or there is no memory for it
 pub begun_lost : (manner : Manner) (job : HandedJob) (addresses : AddressesValue) (x : AttemptValue) (end : Option ExchangeEnd) (now : ExchangeEnd) (items : List (BackendValue × Bool)) (loss : Option Loss)
@@ -281,7 +336,7 @@ module _ (x : AskingState) (begun : HasBegun x) where
       → ((o ≡ outcome_of None) × IsUnanswered x.manner (asked_for x)) ⊎ IsAnswered x.manner (asked_for x) o
   ends_so (ends.Reply reply) o h is =
       let w = h.whole reply refl in
-      inr record { whole = w.0; reply = reply; rest = w.1.0; begins = w.1.1; outcome_is = sym (one_outcome (outcome_of (Some reply)) o is) }
+      inr record { whole = w.0; reply = reply; begins = w.1; own = w.2; outcome_is = sym (one_outcome (outcome_of (Some reply)) o is) }
   ends_so (ends.Lost loss) o h is = inl (sym (one_outcome (outcome_of None) o is), h.unanswered loss refl)
   ends_so ends.NoMemory o h is = absurd (no_outcome o is)
 
@@ -299,7 +354,7 @@ module _ (x : AskingState) (begun : HasBegun x) where
   fair_loss None ended tells = record { begun = begins_request x begun; outcome = λ o is. absurd (no_outcome o is) }
   fair_loss (Some out) ended tells = record {
     begun = begins_request x begun;
-    outcome = λ o is. inl (sym (one_outcome (outcome_of None) o (tells ∙ is)), λ whole. (begun.asks ended).reads.unanswered);
+    outcome = λ o is. inl (sym (one_outcome (outcome_of None) o (tells ∙ is)), λ whole. inl (begun.asks ended).reads.unanswered);
   }
 
 -- how it ended is taken from it
@@ -364,7 +419,7 @@ fair_over manner x over o f = record {
   outcome = λ out is.
       ⊎_elim
       (λ (lost : (out ≡ outcome_of None) × IsUnanswered manner x). inl (lost.0, lost.1))
-      (λ (a : IsAnswered manner x out). inr record { whole = a.whole; reply = a.reply; rest = a.rest; begins = a.begins; outcome_is = a.outcome_is })
+      (λ (a : IsAnswered manner x out). inr record { whole = a.whole; reply = a.reply; begins = a.begins; own = a.own; outcome_is = a.outcome_is })
       (f.outcome out is);
 }
 

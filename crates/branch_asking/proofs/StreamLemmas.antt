@@ -8,6 +8,7 @@ use Rattle.wires.specs.lemmas.Turns.{got-append}
 use Rattle.gateway_theory.specs.lemmas.PastLemmas.{prefix-refl, prefix-trans}
 use Rattle.branch_exchange.specs.declared.exchange_end.ExchangeEnd.{ExchangeEnd}
 use Rattle.loop_model.specs.Accounts.{NetworkValue}
+use Rattle.loop_model.specs.Asking.{is_used_by}
 use Rattle.loop_model.specs.Streams.{ClosedValue, closed_stream}
 use Rattle.loop_model.specs.Whole.{IsSameIfThere}
 use Rattle.branch_asking.specs.Streams.{GoesOver, without_turns}
@@ -234,3 +235,8 @@ module _ (manner : Manner) (job : HandedJob) (a b : AddressesValue) (x y : Attem
     tried = follows;
     new = touched.2;
   }
+
+-- a stream of which a job has had a share was used
+pub used_more : (before : List ShareValue) (x : ShareValue) → is_used_by (before ++ x ∷ []) ≡ true
+used_more [] x = refl
+used_more (y ∷ before) x = refl

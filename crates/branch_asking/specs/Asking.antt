@@ -1,5 +1,5 @@
 -- A job that is asked for: what was written and read for it, and how that ends.
-use Rattle.std.specs.Prelude.{◌≡◌, ℕ, Bool, true, false, ◌&&◌, ◌||◌, All, List, [], ◌∷◌, ◌++◌, drop, length, map, Option, Some, None, option_map, option_and_then, option_to_list, is_some, if◌then◌else◌}
+use Rattle.std.specs.Prelude.{◌≡◌, ◌⊎◌, ℕ, Bool, true, false, ◌&&◌, ◌||◌, All, List, [], ◌∷◌, ◌++◌, drop, length, map, Option, Some, None, option_map, option_and_then, option_to_list, is_some, if◌then◌else◌}
 use Rattle.std.specs.Option.{option_map_or}
 use Rattle.std.specs.declared.net.socket_addr.SocketAddr.{SocketAddr}
 use Rattle.http_pieces.specs.declared.framing.Framing.{Framing}
@@ -8,13 +8,15 @@ use Rattle.branch_exchange.specs.Exchange.{BeginsWithReply, ExchangeValue, HasNo
 use Rattle.branch_exchange.specs.declared.exchange_end.ExchangeEnd.{ExchangeEnd}
 use Rattle.branch_exchange.specs.declared.exchange_end.ExchangeEnd.TheVariants as ends
 use Rattle.branch_exchange.specs.declared.exchange_end.Loss.{Loss}
+use Rattle.branch_exchange.specs.declared.exchange_end.Loss.TheVariants as loss
+use Rattle.branch_causes.specs.Causes.{is_timeout}
 use Rattle.gateway_model.specs.Queue.{IsPrefixOf}
 use Rattle.gateway_theory.specs.Task.{HandedJob}
 use Rattle.loop_model.specs.Requests.{request_of}
 use Rattle.loop_model.specs.Shares.{IsStreamFor}
 use Rattle.loop_model.specs.Streams.{IsNew, ShareValue, StreamValue, stream_value, turns_of}
 use Rattle.loop_model.specs.Whole.{IsSameStream}
-use Rattle.loop_model.specs.Asking.{AskingValue, IsUntouched, new_for, peers_of}
+use Rattle.loop_model.specs.Asking.{AskingValue, IsUntouched, is_stray, new_for, peers_of}
 use Rattle.loop_model.specs.declared.manner.Manner.{Manner}
 use Rattle.wires.specs.Turns.{BeginsQuietly, Quiet, Turn, ended_of, given_of, got_of}
 use Rattle.wires.specs.Wires.{is_to_read}
@@ -103,14 +105,20 @@ pub record Asks (framing : Framing) (request : List ℕ) (x : AttemptValue) : Ty
   pub reads : IsReading framing x.exchange.replies (given_by x.stream)
   pub goes_on : ended_by x.stream ≡ false
 
--- It has ended so: with a reply only if the request was written whole, and what was read begins with that, and is no more where that is said;
--- and as lost only if the request was not, or what was read begins with none. In any case the first bytes of the request were written, and no
--- others.
+-- What an exchange came to, over a stream that jobs went over before, or not: there a reply that says that no request came in time is lost.
+abbrev pub own_end : Bool → ExchangeEnd → ExchangeEnd
+own_end used end = if used && is_timeout end then ends.Lost loss.Early else end
+
+-- It has ended so: with a reply only if the request was written whole, and what was read begins with that, and is no more where that is said,
+-- and it is not stray; and as lost only if the request was not, or what was read begins with none, or with one that is stray. In any case the
+-- first bytes of the request were written, and no others.
 pub record HasEnded (framing : Framing) (request : List ℕ) (end : ExchangeEnd) (x : AttemptValue) : Type 0 where
   pub prefix : IsPrefixOf (got_by x.stream) request
-  pub whole : (reply : HttpReply) → end ≡ ends.Reply reply → (got_by x.stream ≡ request) × BeginsWithReply framing (given_by x.stream) reply
+  pub whole : (reply : HttpReply) → end ≡ ends.Reply reply
+      → (got_by x.stream ≡ request) × BeginsWithReply framing (given_by x.stream) reply × (is_stray x.stream reply ≡ false)
   pub alone : (reply : HttpReply) → end ≡ ends.Reply reply → x.exchange.alone ≡ true → IsReplyAlone framing (given_by x.stream) reply
-  pub unanswered : (loss : Loss) → end ≡ ends.Lost loss → got_by x.stream ≡ request → HasNoReply framing (given_by x.stream)
+  pub unanswered : (loss : Loss) → end ≡ ends.Lost loss → got_by x.stream ≡ request
+      → HasNoReply framing (given_by x.stream) ⊎ ((reply : HttpReply) × BeginsWithReply framing (given_by x.stream) reply × (is_stray x.stream reply ≡ true))
 
 -- the report became known of its stream, if it has one
 abbrev pub noted_attempt : Ready → AttemptValue → AttemptValue

@@ -347,7 +347,7 @@ impl<W: Wire + Drop> Asking<W> {
         let Some(address) = self.addresses.next() else {
             return false;
         };
-        self.errand.has_new_stream();
+        self.errand.goes_over(false);
         // further requests may go over one that is kept
         let length = if self.manner.keeps {
             usize::MAX
@@ -378,7 +378,7 @@ impl<W: Wire + Drop> Asking<W> {
         }
         let back = self.attempt.reuse(stream);
         if back.is_none() {
-            self.errand.has_new_stream();
+            self.errand.goes_over(true);
         }
         back
     }

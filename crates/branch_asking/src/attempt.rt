@@ -1,11 +1,12 @@
 ghost use Rattle.std.specs.Prelude.{◌≡◌, [], None, Some, IfSome, IsFalse, false, is_some, option_map};
 ghost use Rattle.loop_model.specs.Asking.{IsUntouched};
 ghost use Rattle.loop_model.specs.Streams.{IsNew};
-ghost use Rattle.branch_asking.specs.Asking.{Asks, HasGrown, HasLookedAt, IsStill, IsUntouchedAttempt, Reuses, Steps, attempt_value, got_by, noted_attempt, until_of};
+ghost use Rattle.branch_asking.specs.Asking.{Asks, HasGrown, HasLookedAt, IsStill, IsUntouchedAttempt, Reuses, Steps, attempt_value, got_by, noted_attempt, own_end, until_of};
 ghost use Rattle.branch_asking.specs.Rests.{rests_over};
 
 use crate::backend::Backend;
 use crate::network::Network;
+use branch_causes::is_timeout;
 use branch_exchange::{Exchange, ExchangeEnd, Loss};
 use http_pieces::{Bytes, Framing};
 use std::alloc::Global;
@@ -240,12 +241,13 @@ impl<W: Wire> Attempt<W> {
         let Some(stream) = &mut self.stream else {
             return Step::Waits;
         };
+        let is_used = stream.is_used();
         let mut piece = [0u8; PIECE];
         match stream.read(&mut piece) {
             Got::Bytes(count) => {
                 self.is_connected = true;
                 match self.exchange.received(&piece[..count]) {
-                    Some(end) => Step::Ended(end),
+                    Some(end) => Step::Ended(own_end(is_used, end)),
                     None => Step::More,
                 }
             }
@@ -302,5 +304,17 @@ impl<W: Wire + Drop> Attempt<W> {
             }
             Sent::Nothing | Sent::Interrupted | Sent::Failed(_) => Some(stream),
         }
+    }
+}
+
+/// What an exchange came to, over a stream that jobs went over before, or not. There a reply that says that no request
+/// came in time may have been on its way before this one: it is lost.
+fn own_end(is_used: bool, end: ExchangeEnd) -> ExchangeEnd
+    ensures { result ≡ own_end is_used end }
+{
+    if is_used && is_timeout(&end) {
+        ExchangeEnd::Lost(Loss::Early)
+    } else {
+        end
     }
 }

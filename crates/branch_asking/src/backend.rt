@@ -1,5 +1,6 @@
 ghost use Rattle.std.specs.Prelude.{◌≡◌, ◌||◌, ◌++◌, ◌∷◌, [], Some, IsTrue, false};
 ghost use Rattle.branch_asking.specs.Asking.{HasLookedAt, backend_value, with_turns};
+ghost use Rattle.loop_model.specs.Asking.{is_used_by};
 ghost use Rattle.loop_model.specs.Streams.{closed_stream, closed_turns, share_value, stream_value};
 ghost use Rattle.wires.specs.Turns.{BringsWithin, Quiet, TakesWithin, turns_of_read, turns_of_write};
 ghost use Rattle.wires.specs.declared.got.Got.TheVariants as got;
@@ -22,21 +23,25 @@ pub struct Backend<W: Wire> {
     // the moment at which it was made, and how many jobs went over it
     opened: u64,
     uses: u32,
+    // whether bytes came while nobody waited for a reply
+    has_unasked: bool,
     // for proofs: the shares that jobs had of it
     before: Shares,
 }
 
 impl<W: Wire> Model for Backend<W> {
-    ghost use Rattle.std.specs.Prelude.{◌≡◌, Some};
+    ghost use Rattle.std.specs.Prelude.{◌≡◌, ◌==◌, Some, not};
     ghost use Rattle.branch_asking.specs.Asking.{BackendValue, backend_value, own_turns};
     ghost use Rattle.gateway_model.specs.Queue.{IsPrefixOf};
+    ghost use Rattle.loop_model.specs.Asking.{is_used_by};
     ghost use Rattle.loop_model.specs.Streams.{stream_value, turns_of};
 
     ghost Value = { BackendValue };
 
     ghost view = { λ b. backend_value (stream_value b.peer b.before.items (own_turns b.before.items (W.turns b.wire))) (W.reads b.wire) (W.writes b.wire) (W.watched b.wire) (W.reported b.wire) };
 
-    ghost invariant = { λ b. (W.peer b.wire ≡ Some b.peer) × IsPrefixOf (turns_of b.before.items) (W.turns b.wire) };
+    ghost invariant = { λ b. (W.peer b.wire ≡ Some b.peer) × IsPrefixOf (turns_of b.before.items) (W.turns b.wire)
+        × (is_used_by b.before.items ≡ not (b.uses == 0)) };
 }
 
 impl<W: Wire> Backend<W> {
@@ -55,6 +60,7 @@ impl<W: Wire> Backend<W> {
             peer: address,
             opened: moment,
             uses: 0,
+            has_unasked: false,
             before: Shares::new(),
         }
     }
@@ -101,17 +107,18 @@ impl<W: Wire> Backend<W> {
             .is_some_and(|(by, for_writes)| by == token && (for_writes || !writes))
     }
 
+    #[tactic(auto, using(crate::proofs::StreamLemmas::used_more))]
     /// The job's share of it has ended with this outcome.
     pub(crate) fn end_share(&mut self, job: &Job, outcome: &Option<Outcome>)
         ensures { self.new.stream ≡ stream_value self.old.stream.peer
             (self.old.stream.before ++ share_value job.now.job self.old.stream.turns outcome.now ∷ []) [] }
     {
-        self.uses = self.uses.saturating_add(1);
         self.before = self.before.and(&Share {
             stream: &*self,
             job,
             outcome,
         });
+        self.uses = self.uses.saturating_add(1);
     }
 
     /// The moment at which it was made.
@@ -119,9 +126,21 @@ impl<W: Wire> Backend<W> {
         self.opened
     }
 
+    /// Whether jobs went over it before.
+    pub(crate) fn is_used(&self) -> bool
+        ensures { result ≡ is_used_by self.now.stream.before }
+    {
+        self.uses != 0
+    }
+
     /// How many jobs went over it.
     pub fn uses(&self) -> u32 {
         self.uses
+    }
+
+    /// Whether a read that was to find nothing found bytes.
+    pub fn has_unasked(&self) -> bool {
+        self.has_unasked
     }
 
     /// Its wire, which may be closed.
@@ -133,6 +152,7 @@ impl<W: Wire> Backend<W> {
             peer: _,
             opened: _,
             uses: _,
+            has_unasked: _,
             before: _,
         } = self;
         wire
@@ -157,7 +177,9 @@ impl<W: Wire> Backend<W> {
         ensures watched { self.new.watched ≡ self.old.watched }
     {
         let mut piece = [0u8; PIECE];
-        self.read(&mut piece) == Got::Nothing
+        let got = self.read(&mut piece);
+        self.has_unasked |= matches!(got, Got::Bytes(_));
+        got == Got::Nothing
     }
 
     /// Writes once of what waits, from its first byte on.

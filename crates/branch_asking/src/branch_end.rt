@@ -12,4 +12,6 @@ pub struct BranchEnd {
     pub status: Option<u16>,
     /// The milliseconds that it took.
     pub took: u64,
+    /// Whether its request went over a connection that was kept.
+    pub is_reused: bool,
 }

@@ -11,6 +11,8 @@ pub struct Errand {
     pub began: u64,
     /// Whether its backend is known to have ended its stream.
     pub has_ended: bool,
+    /// Whether other jobs went over its stream before.
+    pub is_reused: bool,
     /// Its number among those that wait for its name, if it does.
     pub waits: Option<usize>,
 }
@@ -22,6 +24,7 @@ impl Errand {
             client,
             began,
             has_ended: false,
+            is_reused: false,
             waits: None,
         }
     }
@@ -38,8 +41,9 @@ impl Errand {
         self.waits = waits;
     }
 
-    /// Its stream is a new one.
-    pub(crate) fn has_new_stream(&mut self) {
+    /// It has another stream now; whether other jobs went over that before.
+    pub(crate) fn goes_over(&mut self, is_reused: bool) {
         self.has_ended = false;
+        self.is_reused = is_reused;
     }
 }

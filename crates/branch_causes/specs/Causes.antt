@@ -1,5 +1,5 @@
 -- What ended the asking of a backend.
-use Rattle.std.specs.Prelude.{ℕ, List, ◌==◌, if◌then◌else◌, false, codes, Option, None, Some, is_some, bytes_eq}
+use Rattle.std.specs.Prelude.{ℕ, Bool, List, ◌==◌, if◌then◌else◌, false, codes, Option, None, Some, is_some, bytes_eq}
 use Rattle.std.specs.Option.{option_map_or}
 use Rattle.std.specs.declared.io.ErrorKind.{ErrorKind}
 use Rattle.std.specs.declared.io.ErrorKind.TheVariants as kind
@@ -102,6 +102,11 @@ status_of_fault (fault.NotFixedLength status) = Some status
 status_of_fault (fault.BadLength status) = Some status
 status_of_fault (fault.BodyTooLarge status) = Some status
 status_of_fault (fault.BadChunk status) = Some status
+
+-- whether it is a reply that says that no request came in time (408, RFC 9110, section 15.5.9)
+abbrev pub is_timeout : ExchangeEnd → Bool
+is_timeout (ends.Reply reply) = reply.status == 408
+is_timeout _ = false
 
 -- its status
 abbrev pub status_of_end : ExchangeEnd → Option ℕ

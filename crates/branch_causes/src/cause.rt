@@ -1,6 +1,6 @@
 ghost use Rattle.std.specs.Prelude.{◌≡◌};
 ghost use Rattle.branch_causes.specs.Causes.{cause_name, cause_of_end, cause_of_failure, cause_of_fault};
-ghost use Rattle.branch_causes.specs.Causes.{cause_of_kind, cause_of_loss, settled, status_of_end, status_of_fault};
+ghost use Rattle.branch_causes.specs.Causes.{cause_of_kind, cause_of_loss, is_timeout, settled, status_of_end, status_of_fault};
 
 use branch_exchange::{ExchangeEnd, Loss};
 use connect_codec::Outcome;
@@ -130,6 +130,16 @@ pub fn status_of_end(end: &ExchangeEnd) -> Option<u16>
         ExchangeEnd::Reply(reply) => Some(reply.status.as_u16()),
         ExchangeEnd::Lost(Loss::Refused(fault)) => status_of_fault(*fault),
         _ => None,
+    }
+}
+
+/// Whether it is a reply that says that no request came in time (408, RFC 9110, section 15.5.9).
+pub fn is_timeout(end: &ExchangeEnd) -> bool
+    ensures { result ≡ is_timeout end.now }
+{
+    match end {
+        ExchangeEnd::Reply(reply) => reply.status.as_u16() == 408,
+        _ => false,
     }
 }
 

@@ -4,4 +4,4 @@
 mod cause;
 pub mod laws;
 
-pub use cause::{Cause, cause_of_end, status_of_end};
+pub use cause::{Cause, cause_of_end, is_timeout, status_of_end};

@@ -37,7 +37,8 @@ pub enum Loss {
     End,
     /// What came is no reply that is taken.
     Refused(ReplyFault),
-    /// It came before its request was written whole.
+    /// It came before its request was written whole; or, over a stream that was used before, it may have come before
+    /// the request.
     Early,
     /// 131,072 reads left it incomplete.
     Reads,

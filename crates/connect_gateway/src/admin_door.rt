@@ -5,10 +5,12 @@ use crate::entrance::{Entrance, VISITORS};
 use crate::loop_side::LoopSide;
 use crate::visitor::Seen;
 use admin::{
-    Asked, BranchTotals, Door, Drain, Figures, LoopFigures, PlanTotals, Readiness, Rejections,
-    ServedNames, drain_reply, forbidden_reply, metrics_reply, metrics_text, misdirected_reply,
-    not_found_reply, only_get_reply, only_post_reply, ready_reply, refusal_reply,
+    Asked, BranchTotals, Door, Drain, Figures, KeptFigures, LoopFigures, PlanTotals, Readiness,
+    Rejections, ServedNames, drain_reply, forbidden_reply, metrics_reply, metrics_text,
+    misdirected_reply, not_found_reply, only_get_reply, only_post_reply, ready_reply,
+    refusal_reply,
 };
+use gateway_loop::KeptCounts;
 use http_pieces::{Bytes, Text};
 use mio::net::TcpListener;
 use mio::{Events, Poll};
@@ -35,6 +37,8 @@ pub(crate) struct AdminDoor {
     names: Arc<ServedNames>,
     // how many lines of the log were left out
     dropped: Arc<AtomicU64>,
+    // whether connections to backends are kept
+    keeps: bool,
     // the figures that were told last
     made: Option<Made>,
 }
@@ -54,12 +58,14 @@ impl Model for AdminDoor {
 }
 
 impl AdminDoor {
-    /// A door with no entrance yet, by whose drain streams are accepted and calls go on for so many milliseconds.
+    /// A door with no entrance yet, by whose drain streams are accepted and calls go on for so many milliseconds. It
+    /// tells of connections to backends where they are kept.
     pub(crate) fn new(
         alloc: Global,
         drain: Drain,
         names: Arc<ServedNames>,
         dropped: Arc<AtomicU64>,
+        keeps: bool,
     ) -> AdminDoor {
         AdminDoor {
             alloc,
@@ -67,6 +73,7 @@ impl AdminDoor {
             drain,
             names,
             dropped,
+            keeps,
             made: None,
         }
     }
@@ -222,6 +229,7 @@ impl AdminDoor {
         let mut unserved = now.unserved;
         let mut rejections = Rejections::new();
         let mut broken: u64 = 0;
+        let mut kept = KeptFigures::new();
         for side in sides {
             if let Some(counts) = &side.counts {
                 counts.add_to(&mut totals);
@@ -230,9 +238,12 @@ impl AdminDoor {
             }
             unserved = unserved.saturating_add(side.unserved.load(Ordering::SeqCst));
             broken = broken.saturating_add(side.broken.load(Ordering::SeqCst));
+            let standing = side.standing(rt);
+            kept = kept.plus(&kept_figures(side, &standing.kept_counts));
             loops.push(LoopFigures {
                 connections: side.open.load(Ordering::SeqCst),
-                exchanges: side.standing(rt).asking as u64,
+                exchanges: standing.asking as u64,
+                kept: standing.kept as u64,
             })?;
         }
         let figures = Figures {
@@ -240,6 +251,7 @@ impl AdminDoor {
             totals: &totals,
             asked: &asked,
             loops: &loops,
+            kept: self.keeps.then_some(kept),
             rejections: &rejections,
             streams_closed: unserved,
             connections_broken: broken,
@@ -260,6 +272,18 @@ impl AdminDoor {
             asked.push(BranchTotals::new())?;
         }
         Ok((totals, asked))
+    }
+}
+
+/// What became of the connections to backends of one loop.
+fn kept_figures(side: &LoopSide, counts: &KeptCounts) -> KeptFigures {
+    KeptFigures {
+        opened: side.opened.load(Ordering::SeqCst),
+        used: counts.used,
+        expired: counts.expired,
+        ended: counts.ended,
+        unasked: counts.unasked,
+        displaced: counts.displaced,
     }
 }
 

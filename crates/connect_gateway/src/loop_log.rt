@@ -97,40 +97,49 @@ impl LoopLog {
     /// Tells what came of asking the backend of a branch, unless it answered and only failures are told.
     pub(crate) fn tell_branch<R: Clock + Wait>(&self, rt: &R, end: &BranchEnd) {
         if tells_branch(end.cause, self.to.tells_all) {
-            self.tell_job(rt, &end.job, end.cause, end.status, end.took);
+            self.tell_end(rt, end);
         }
     }
 
     /// Tells that the backend of a branch will not be asked.
     pub(crate) fn tell_unasked<R: Clock + Wait>(&self, rt: &R, job: &Job) {
-        self.tell_job(rt, job, Cause::NeverAsked, None, 0);
+        self.tell_asked(rt, &unasked(job));
     }
 
-    fn tell_job<R: Clock + Wait>(
-        &self,
-        rt: &R,
-        job: &Job,
-        cause: Cause,
-        status: Option<u16>,
-        took: u64,
-    ) {
+    fn tell_end<R: Clock + Wait>(&self, rt: &R, end: &BranchEnd) {
         let asked = BranchAsked {
-            call: job.call(),
-            plan: job.plan_path(),
-            branch: job.branch_name(),
-            address: job.address(),
-            took,
-            cause,
-            status,
-            request_id: id_of(job),
+            took: end.took,
+            cause: end.cause,
+            status: end.status,
+            is_reused: end.is_reused,
+            ..unasked(&end.job)
         };
-        let line = branch_line(self.alloc, milliseconds_since_1970(rt), self.worker, &asked);
+        self.tell_asked(rt, &asked);
+    }
+
+    fn tell_asked<R: Clock + Wait>(&self, rt: &R, asked: &BranchAsked<'_>) {
+        let line = branch_line(self.alloc, milliseconds_since_1970(rt), self.worker, asked);
         self.to.add(rt, line.ok());
     }
 
     /// Tells that a stream was closed without a byte.
     pub(crate) fn tell_unserved<R: Clock + Wait>(&self, rt: &R) {
         self.to.tell_unserved(rt, self.alloc, Unserved::NoMemory);
+    }
+}
+
+/// The branch of the job, whose backend was not asked.
+fn unasked(job: &Job) -> BranchAsked<'_> {
+    BranchAsked {
+        call: job.call(),
+        plan: job.plan_path(),
+        branch: job.branch_name(),
+        address: job.address(),
+        took: 0,
+        cause: Cause::NeverAsked,
+        status: None,
+        request_id: id_of(job),
+        is_reused: false,
     }
 }
 

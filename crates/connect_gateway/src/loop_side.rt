@@ -4,7 +4,7 @@ use crate::socket::Socket;
 use admin::{LoopCounts, Stage};
 use crossbeam_channel::{Receiver, Sender, unbounded};
 use gateway_core::Tally;
-use gateway_loop::{Dealt, LookedUp, LoopStanding};
+use gateway_loop::{Dealt, KeptCounts, LookedUp, LoopStanding};
 use mio::Waker;
 use script_replay::PlainHook;
 use std::alloc::{AllocError, Global};
@@ -41,6 +41,8 @@ pub(crate) struct LoopSide {
     pub(crate) unserved: AtomicU64,
     /// How many of its connections broke, for want of memory.
     pub(crate) broken: AtomicU64,
+    /// How many connections to backends it opened.
+    pub(crate) opened: AtomicU64,
     // how it stood after its last turn
     standing: Mutex<LoopStanding>,
     is_closed: AtomicBool,
@@ -74,11 +76,15 @@ impl LoopSide {
             counts,
             unserved: AtomicU64::new(0),
             broken: AtomicU64::new(0),
-            standing: Mutex::new(idle(Tally {
-                counted: 0,
-                late: 0,
-                unknown: 0,
-            })),
+            opened: AtomicU64::new(0),
+            standing: Mutex::new(idle(
+                Tally {
+                    counted: 0,
+                    late: 0,
+                    unknown: 0,
+                },
+                KeptCounts::new(),
+            )),
             is_closed: AtomicBool::new(false),
             closes_idle: AtomicBool::new(false),
             ends_calls: AtomicBool::new(false),
@@ -139,8 +145,8 @@ impl LoopSide {
     /// counted stays.
     pub(crate) fn end<R: Wait>(&self, rt: &R) {
         self.is_over.store(true, Ordering::SeqCst);
-        let tally = self.standing(rt).tally;
-        self.tell(rt, idle(tally));
+        let last = self.standing(rt);
+        self.tell(rt, idle(last.tally, last.kept_counts));
     }
 
     pub(crate) fn is_over(&self) -> bool {
@@ -170,13 +176,15 @@ impl LoopSide {
     }
 }
 
-/// A loop that has nothing to do, and has counted these results.
-fn idle(tally: Tally) -> LoopStanding {
+/// A loop that has nothing to do, and has counted these results, and this of connections that were kept.
+fn idle(tally: Tally, kept_counts: KeptCounts) -> LoopStanding {
     LoopStanding {
         open: 0,
         lingering: 0,
         asking: 0,
         waiting: 0,
+        kept: 0,
+        kept_counts,
         tally,
     }
 }

@@ -349,6 +349,7 @@ impl<M: NetHost> Network<Told<Socket>> for MioNetwork<M> {
 
     fn connect(&mut self, address: SocketAddr, length: usize) -> Told<Socket> {
         self.made = self.made.and(&address, &());
+        self.side.opened.fetch_add(1, Ordering::SeqCst);
         Told::new(Socket::to_backend(&self.rt, address, length), Some(address))
     }
 

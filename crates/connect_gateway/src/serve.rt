@@ -250,7 +250,13 @@ fn open_door<M: Host + Net>(
     }
     let names = Arc::try_clone(names)?;
     let dropped = Arc::try_clone(&lines.dropped)?;
-    let mut door = AdminDoor::new(alloc, drain_of(service), names, dropped);
+    let mut door = AdminDoor::new(
+        alloc,
+        drain_of(service),
+        names,
+        dropped,
+        service.keep.is_some(),
+    );
     if let Some(admin) = &service.admin {
         let listener = listen(rt, log, admin.address.as_str())?;
         let given = Text::from_str(alloc, admin.address.as_str())?;

@@ -1,7 +1,7 @@
 ghost use Rattle.std.specs.Prelude.{⊤};
 
 use crate::log_writer::milliseconds_since_1970;
-use access_log::{Remark, remark_line, start_line};
+use access_log::{Listening, Remark, remark_line, start_line};
 use command_line::Service;
 use input_files::PlanFile;
 use script_replay::Fault;
@@ -76,9 +76,14 @@ impl<M: Clock + Eprint> StartLog<M> {
             return;
         }
         let time = milliseconds_since_1970(&self.rt);
-        let admin = service.admin.as_ref().map(|admin| admin.address.as_str());
-        let listen = service.listen.as_str();
-        if let Ok(line) = start_line(self.alloc, time, listen, admin, plans, service.workers) {
+        let listening = Listening {
+            listen: service.listen.as_str(),
+            admin: service.admin.as_ref().map(|admin| admin.address.as_str()),
+            keep: service.keep,
+            plans,
+            workers: service.workers,
+        };
+        if let Ok(line) = start_line(self.alloc, time, &listening) {
             let _ = self.rt.eprintln(line.as_str());
         }
     }

@@ -11,6 +11,7 @@ pub mod GrowLemmas
 pub mod NameLemmas
 pub mod KeptLemmas
 pub mod AskLemmas
+pub mod FairLemmas
 pub mod RestLemmas
 pub mod TellLemmas
 pub mod AccountLemmas

@@ -9,7 +9,8 @@ use Rattle.branch_asking.specs.Asking.{got_by, until_of}
 use Rattle.branch_asking.specs.Rests.{is_sent, rests_watched}
 use Rattle.gateway_model.specs.Known.{Shown}
 use Rattle.loop_model.specs.Rest.{AtMost, IsWatched, IsWritten, RestsAsking, RestsClient, RestsKept}
-use Rattle.gateway_loop.proofs.AskLemmas.{HasUntouched, shown_at}
+use Rattle.gateway_loop.proofs.AskLemmas.{shown_at}
+use Rattle.gateway_loop.proofs.FairLemmas.{HasUntouched}
 use Rattle.gateway_loop.proofs.NameLemmas.{among_there}
 use Rattle.gateway_loop.specs.Names.{is_among}
 use Rattle.gateway_loop.specs.NextTurns.{due_by}

@@ -12,7 +12,7 @@ use crate::clients::Clients;
 use crate::closing::ClosingStreams;
 use crate::comings::LookedUp;
 use crate::ends::Ends;
-use crate::kept::KeptStreams;
+use crate::kept::{KeptCounts, KeptStreams};
 use crate::limits::{MOST_CLIENTS, MOST_EXCHANGES};
 use crate::names::Names;
 use crate::next_turn::NextTurn;
@@ -41,6 +41,9 @@ pub struct LoopStanding {
     pub asking: usize,
     /// Jobs that wait for a place.
     pub waiting: usize,
+    /// Streams to backends that are kept, and what became of those that were.
+    pub kept: usize,
+    pub kept_counts: KeptCounts,
     /// How the results were seen.
     pub tally: Tally,
 }
@@ -132,6 +135,7 @@ impl<H: ReplyHook + Drop, W: Wire + Drop> EventLoop<H, W> {
         ensures open { result.open ≡ count_clients self.now.side.clients - count_lingering self.now.side.clients }
         ensures lingering { result.lingering ≡ count_lingering self.now.side.clients }
         ensures waiting { result.waiting ≡ length (jobs_of self.now.side.core) }
+        ensures kept { result.kept ≡ length self.now.kept }
         ensures tally { result.tally ≡ self.now.side.core.tally }
     {
         let lingering = self.clients().lingering();
@@ -140,6 +144,8 @@ impl<H: ReplyHook + Drop, W: Wire + Drop> EventLoop<H, W> {
             lingering,
             asking: self.asking.len(),
             waiting: self.clients().core().waiting_jobs(),
+            kept: self.kept.len(),
+            kept_counts: self.kept.counts(),
             tally: self.clients().core().tally(),
         }
     }

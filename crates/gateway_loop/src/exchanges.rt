@@ -1,5 +1,5 @@
 ghost use Rattle.std.specs.List.{Contains};
-ghost use Rattle.std.specs.Prelude.{◌≡◌, ◌+◌, ◌∷◌, [], IsTrue, count_by, is_some, take, true};
+ghost use Rattle.std.specs.Prelude.{◌≡◌, ◌+◌, ◌∷◌, [], IsTrue, count_by, false, is_some, take, true};
 ghost use Rattle.gateway_loop.specs.Loop.{Admits, Goes, GoesAlone, IsToldBeside, found_asking};
 ghost use Rattle.loop_model.specs.Accounts.{NetworkValue};
 ghost use Rattle.loop_model.specs.Whole.{asked_at};
@@ -8,6 +8,7 @@ ghost use Rattle.loop_model.specs.Reports.{changed_at, tell, told_asking};
 use crate::comings::LookedUp;
 use crate::event_loop::EventLoop;
 use crate::limits::{ATTEMPT, CLOSING, MOST_EXCHANGES, is_due, places_with};
+use crate::login::logs_in;
 use crate::tokens::{Owner, exchange_token, owner_of};
 use branch_asking::{Asking, BranchEnd, Concluded, Errand, Network, Progress};
 use branch_causes::Cause;
@@ -193,7 +194,7 @@ impl<H: ReplyHook + Drop, W: Wire + Drop> EventLoop<H, W> {
         let (job, errand, stream) = asking.into_parts(&outcome);
         self.clients.record(&job, outcome);
         let moment = self.clients.moment();
-        let may_keep = may_be_kept(self.manner, is_whole, errand.has_ended);
+        let may_keep = may_be_kept(self.manner, is_whole, errand.has_ended, logs_in(&job));
         if let Some(stream) = self.kept.keep(stream, may_keep, job.address(), moment) {
             self.left = self.left.and(&stream, &());
             let waits = came && !errand.has_ended;
@@ -207,6 +208,7 @@ impl<H: ReplyHook + Drop, W: Wire + Drop> EventLoop<H, W> {
             cause,
             status,
             took: moment.saturating_sub(errand.began),
+            is_reused: errand.is_reused,
         };
         Some((end, errand))
     }
@@ -219,12 +221,14 @@ impl<H: ReplyHook + Drop, W: Wire + Drop> EventLoop<H, W> {
     }
 }
 
-/// Whether a stream may be kept: if streams are, its job had its whole reply, with nothing behind it, and its backend
-/// is not known to have ended it.
-fn may_be_kept(manner: Manner, is_whole: bool, has_ended: bool) -> bool
-    ensures { IsTrue result → (manner.keeps ≡ true) × (is_whole ≡ true) }
+/// Whether a stream may be kept: if streams are, its job had its whole reply, with nothing behind it, its backend is
+/// not known to have ended it, and it does not know the stream by who has logged in over it.
+fn may_be_kept(manner: Manner, is_whole: bool, has_ended: bool, logs_in: bool) -> bool
+    ensures whole { IsTrue result → (manner.keeps ≡ true) × (is_whole ≡ true) }
+    ensures open { IsTrue result → has_ended ≡ false }
+    ensures nobodys { IsTrue result → logs_in ≡ false }
 {
-    manner.keeps && is_whole && !has_ended
+    manner.keeps && is_whole && !has_ended && !logs_in
 }
 
 // what else is known of clients and exchanges

@@ -11,6 +11,66 @@ use std::collections::VecDeque;
 use std::marker::Model;
 use wires::{Ready, Wire};
 
+/// What became of streams that were kept, so far.
+#[derive(Clone, Copy, PartialEq, Eq, Debug)]
+pub struct KeptCounts {
+    /// How often a job went over one.
+    pub used: u64,
+    /// How many were closed as their time was over.
+    pub expired: u64,
+    /// How many were closed as their backends had ended them.
+    pub ended: u64,
+    /// How many were closed as bytes came that nobody had asked for.
+    pub unasked: u64,
+    /// How many were closed since their places were needed.
+    pub displaced: u64,
+}
+
+/// What became of a stream that was kept.
+#[derive(Clone, Copy, PartialEq, Eq, Debug)]
+pub(crate) enum Fate {
+    Used,
+    Expired,
+    Ended,
+    Unasked,
+    Displaced,
+}
+
+impl KeptCounts {
+    /// Nothing has been kept yet.
+    pub fn new() -> KeptCounts {
+        KeptCounts {
+            used: 0,
+            expired: 0,
+            ended: 0,
+            unasked: 0,
+            displaced: 0,
+        }
+    }
+
+    /// One more stream came to that.
+    fn count(&mut self, fate: Fate) {
+        match fate {
+            Fate::Used => self.used = self.used.saturating_add(1),
+            Fate::Expired => self.expired = self.expired.saturating_add(1),
+            Fate::Ended => self.ended = self.ended.saturating_add(1),
+            Fate::Unasked => self.unasked = self.unasked.saturating_add(1),
+            Fate::Displaced => self.displaced = self.displaced.saturating_add(1),
+        }
+    }
+}
+
+impl Fate {
+    /// What becomes of this one, which a read did not find quiet.
+    pub(crate) fn of<W: Wire>(stream: &Backend<W>) -> Fate {
+        if stream.has_unasked() {
+            Fate::Unasked
+        } else {
+            Fate::Ended
+        }
+    }
+}
+
 /// Streams to backends that are kept, to be used again.
 #[derive(Drop)]
 pub(crate) struct KeptStreams<W: Wire> {
@@ -21,6 +81,7 @@ pub(crate) struct KeptStreams<W: Wire> {
     time: Option<u64>,
     // the number of this turn
     turn: u64,
+    counts: KeptCounts,
 }
 
 impl<W: Wire> Model for KeptStreams<W> {
@@ -96,6 +157,7 @@ impl<W: Wire> KeptStreams<W> {
             streams: VecDeque::new(alloc),
             time,
             turn: 0,
+            counts: KeptCounts::new(),
         }
     }
 
@@ -104,6 +166,18 @@ impl<W: Wire> KeptStreams<W> {
         ensures { result ≡ length self.now }
     {
         self.streams.len()
+    }
+
+    /// What became of those that were kept.
+    pub(crate) fn counts(&self) -> KeptCounts {
+        self.counts
+    }
+
+    /// One more came to that.
+    pub(crate) fn count(&mut self, fate: Fate)
+        ensures { self.new ≡ self.old }
+    {
+        self.counts.count(fate);
     }
 
     /// Another turn begins.
@@ -223,6 +297,15 @@ impl<W: Wire + Drop> KeptStreams<W> {
         Some(self.streams.remove(index)?.into_stream())
     }
 
+    /// Takes the stream at that place of the order, which a read did not find quiet.
+    fn take_spoilt(&mut self, index: usize) -> Option<Backend<W>>
+        ensures { TakesAt index result self.old self.new }
+    {
+        let stream = self.take_at(index)?;
+        self.counts.count(Fate::of(&stream));
+        Some(stream)
+    }
+
     /// Takes the stream that was put back first, if there is one.
     pub(crate) fn take_first(&mut self) -> Option<Backend<W>>
         ensures taken { TakesAny result self.old self.new }
@@ -236,6 +319,7 @@ impl<W: Wire + Drop> KeptStreams<W> {
         ensures { TakesAny result self.old self.new }
     {
         if is_due(self.next_until(), moment) {
+            self.counts.count(Fate::Expired);
             self.take_first()
         } else {
             None
@@ -251,6 +335,6 @@ impl<W: Wire + Drop> KeptStreams<W> {
         if !kept.is_watched_by(ready.token) || kept.hear(ready) {
             return None;
         }
-        self.take_at(index)
+        self.take_spoilt(index)
     }
 }

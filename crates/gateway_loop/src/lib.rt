@@ -15,6 +15,7 @@ mod hints;
 mod kept;
 mod laws;
 mod limits;
+mod login;
 mod names;
 mod next_turn;
 mod rest;
@@ -28,6 +29,7 @@ pub use branch_asking::{BranchEnd, NamesAsked, Network};
 pub use branch_causes::Cause;
 pub use comings::{Comings, Dealt, LookedUp};
 pub use event_loop::{EventLoop, LoopStanding};
+pub use kept::KeptCounts;
 pub use limits::{
     MOST_ADDRESSES, MOST_AGE, MOST_CLOSING, MOST_EXCHANGES, MOST_LINGERING, MOST_USES,
 };

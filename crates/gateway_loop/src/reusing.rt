@@ -4,6 +4,7 @@ ghost use Rattle.gateway_loop.specs.Kept.{ClosesOne};
 ghost use Rattle.gateway_loop.specs.Loop.{Goes, HasLeftMore};
 
 use crate::event_loop::EventLoop;
+use crate::kept::Fate;
 use crate::limits::MOST_EXCHANGES;
 use branch_asking::{Backend, Network};
 use gateway_core::ReplyHook;
@@ -15,8 +16,8 @@ use wires::{Ready, Wire};
 pub(crate) enum Reuse {
     /// The job goes over one from now on, and some of its request was written.
     Goes,
-    /// One was there, but it can't be used, and was closed.
-    Closed,
+    /// One was there, but it can't be used, for this reason, and was closed.
+    Closed(Fate),
     /// None is kept for the job's address.
     NoneKept,
 }
@@ -37,8 +38,9 @@ impl<H: ReplyHook + Drop, W: Wire + Drop> EventLoop<H, W> {
             asking.begun_law();
             return Reuse::Goes;
         };
+        let fate = Fate::of(&stream);
         close(&mut self.left, net, stream);
-        Reuse::Closed
+        Reuse::Closed(fate)
     }
 
     /// The stream at that place of the order of those that are kept is read, if it is watched by the report's token. It
@@ -85,6 +87,13 @@ impl<H: ReplyHook + Drop, W: Wire + Drop> EventLoop<H, W> {
         }
     }
 
+    /// One more stream that was kept came to that.
+    fn count_kept(&mut self, fate: Fate)
+        ensures { self.new ≡ self.old }
+    {
+        self.kept.count(fate);
+    }
+
     /// No stream is kept any more from now on. Those that are stay.
     pub(crate) fn keep_no_more(&mut self)
         ensures { self.new ≡ self.old }
@@ -117,9 +126,12 @@ impl<H: ReplyHook + Drop, W: Wire + Drop> EventLoop<H, W> {
     {
         for _stream in 0..MOST_EXCHANGES {
             match self.reuse(net, place) {
-                Reuse::Goes => return true,
+                Reuse::Goes => {
+                    self.count_kept(Fate::Used);
+                    return true;
+                }
                 Reuse::NoneKept => return false,
-                Reuse::Closed => {}
+                Reuse::Closed(fate) => self.count_kept(fate),
             }
         }
         false
@@ -157,7 +169,9 @@ impl<H: ReplyHook + Drop, W: Wire + Drop> EventLoop<H, W> {
         ensures goes { Goes (N.value net.old) (N.value net.new) self.old self.new }
     {
         let taken = self.asking.len().saturating_add(self.kept.len());
-        if taken >= MOST_EXCHANGES && self.clients().core().waiting_jobs() > 0 {
+        let is_full = taken >= MOST_EXCHANGES && self.kept.len() > 0;
+        if is_full && self.clients().core().waiting_jobs() > 0 {
+            self.count_kept(Fate::Displaced);
             self.close_kept_first(net);
         }
     }

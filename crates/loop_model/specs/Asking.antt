@@ -1,5 +1,5 @@
 -- A job that is asked for, and how that ended.
-use Rattle.std.specs.Prelude.{◌≡◌, ◌⊎◌, ℕ, Bool, All, List, [], ◌∷◌, ◌++◌, map, Option, Some, None, option_to_list}
+use Rattle.std.specs.Prelude.{◌≡◌, ◌⊎◌, ◌&&◌, ◌==◌, ℕ, Bool, true, false, All, List, [], ◌∷◌, ◌++◌, map, Option, Some, None, option_to_list}
 use Rattle.std.specs.Option.{option_map_or}
 use Rattle.std.specs.Net.Grammar.{IsSocketText}
 use Rattle.std.specs.declared.net.socket_addr.SocketAddr.{SocketAddr}
@@ -47,6 +47,11 @@ got_for x = option_map_or (λ (s : StreamValue). got_of s.turns) x.stream []
 abbrev pub streams_for : AskingValue → List StreamValue
 streams_for x = x.tried ++ option_to_list x.stream
 
+-- whether jobs had shares of the stream before
+abbrev pub is_used_by : List ShareValue → Bool
+is_used_by [] = false
+is_used_by (x ∷ before) = true
+
 -- those of them over which no job went before
 abbrev pub new_by : StreamValue → List ShareValue → List StreamValue
 new_by s [] = s ∷ []
@@ -67,18 +72,33 @@ ended_value asking outcome = record { asking = asking; outcome = outcome }
 abbrev pub IsUntouched : StreamValue → Type 0
 IsUntouched s = (given_of s.turns ≡ []) × (got_of s.turns ≡ [])
 
--- the request was written whole, what was read begins with a reply, whose body may be framed so, and the outcome is that of this reply
+-- jobs went over the stream before, if there is one
+abbrev pub is_used : Option StreamValue → Bool
+is_used None = false
+is_used (Some s) = is_used_by s.before
+
+-- Over such a stream a reply of status 408 may have been on its way before the request, to say that none came in time (RFC 9110, section
+-- 15.5.9). So it is nobody's.
+abbrev pub is_stray : Option StreamValue → HttpReply → Bool
+is_stray stream reply = is_used stream && reply.status == 408
+
+-- what was read for it begins with this reply, whose body may be framed so
+abbrev pub BeginsWith : Manner → AskingValue → HttpReply → Type 0
+BeginsWith manner x reply = (rest : List ℕ) × IsCut (reply_kind manner.framing) (given_for x) (Complete reply rest)
+
+-- the request was written whole, what was read begins with a reply of its own, and the outcome is that of this reply
 pub record IsAnswered (manner : Manner) (x : AskingValue) (o : Outcome) : Type 0 where
   pub whole : got_for x ≡ request_of manner x.job
   pub reply : HttpReply
-  pub rest : List ℕ
-  pub begins : IsCut (reply_kind manner.framing) (given_for x) (Complete reply rest)
+  pub begins : BeginsWith manner x reply
+  pub own : is_stray x.stream reply ≡ false
   pub outcome_is : o ≡ outcome_of (Some reply)
 
--- no reply was lost: the request was not written whole, or what was read does not begin with a whole reply
+-- no reply was lost: the request was not written whole, or what was read does not begin with a whole reply, or with one that is nobody's
 abbrev pub IsUnanswered : Manner → AskingValue → Type 0
 IsUnanswered manner x =
-    got_for x ≡ request_of manner x.job → (reply : HttpReply) → ¬ ((rest : List ℕ) × IsCut (reply_kind manner.framing) (given_for x) (Complete reply rest))
+    got_for x ≡ request_of manner x.job
+    → ((reply : HttpReply) → ¬ (BeginsWith manner x reply)) ⊎ ((reply : HttpReply) × BeginsWith manner x reply × (is_stray x.stream reply ≡ true))
 
 -- these are the addresses of the text: the one that it spells, or those that were found for it
 abbrev pub AreAddressesOf : List ℕ → List SocketAddr → List SocketAddr → Type 0

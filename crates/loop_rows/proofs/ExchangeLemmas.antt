@@ -152,8 +152,8 @@ module _ (m : Manner) (a : SocketAddr) (j : JobValue) (given : List ℕ) where
     outcome = λ o is. inr (record {
       whole = append-nil (request_of m j);
       reply = reply;
-      rest = rest;
-      begins = subst (λ (t : List ℕ). IsCut (reply_kind m.framing) t (Complete reply rest)) (sym (append-nil given)) cut;
+      begins = (rest, subst (λ (t : List ℕ). IsCut (reply_kind m.framing) t (Complete reply rest)) (sym (append-nil given)) cut);
+      own = refl;
       outcome_is = sym (some_is _ o is);
     });
   }
@@ -165,8 +165,8 @@ module _ (m : Manner) (a : SocketAddr) (j : JobValue) (given : List ℕ) where
     begun = begun;
     outcome = λ o same. inl (
       sym (some_is _ o same),
-      λ whole reply begins.
-          none reply begins.0 (subst (λ (t : List ℕ). IsCut (reply_kind m.framing) t (Complete reply begins.0)) (append-nil given) begins.1),
+      λ whole. inl (λ reply begins.
+          none reply begins.0 (subst (λ (t : List ℕ). IsCut (reply_kind m.framing) t (Complete reply begins.0)) (append-nil given) begins.1)),
     );
   }
 

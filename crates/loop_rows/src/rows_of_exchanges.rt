@@ -1,5 +1,5 @@
 //! The worked rows of exchanges. The functions do nothing.
-ghost use Rattle.std.specs.Prelude.{◌≡◌, ◌∷◌, ◌++◌, [], ℕ, List, codes, Option, Some, None, false, true};
+ghost use Rattle.std.specs.Prelude.{◌≡◌, ◌==◌, ◌∷◌, ◌++◌, [], ℕ, List, codes, Option, Some, None, false, true};
 ghost use Rattle.connect_codec.specs.Outcome.{outcome_of};
 ghost use Rattle.connect_codec.specs.declared.answer.Outcome.{Outcome};
 ghost use Rattle.gateway_model.specs.Job.{JobValue};
@@ -15,7 +15,7 @@ ghost use Rattle.loop_model.specs.Shares.{IsWhole};
 ghost use Rattle.loop_model.specs.Streams.{ShareValue, share_value};
 ghost use Rattle.loop_model.specs.declared.manner.Manner.{Manner};
 ghost use Rattle.loop_rows.specs.LoopRows.{IsReplyInChunks, ended, ended_over, new_stream, talk};
-ghost use Rattle.wires.specs.Turns.{Came, Quiet, Turn, Went};
+ghost use Rattle.wires.specs.Turns.{Came, Quiet, Turn, Went, given_of};
 
 use http_pieces::laws::reply_cut_law;
 
@@ -60,18 +60,23 @@ fn other_ends()
 }
 
 /// An exchange may go over a stream that was kept: a job of its address went over it, and had its whole reply, and
-/// nothing was there to be read as the request was written.
+/// nothing was there to be read as the request was written. A 408 there is nobody's.
 fn ends_over_kept_streams()
     ensures answered { (m : Manner) (a : SocketAddr) (i j : JobValue) (first : List Turn) (p : Outcome) (reply : HttpReply) (given rest : List ℕ)
         → m.keeps ≡ true → i.address ≡ j.address → IsWhole m (share_value i first (Some p)) → IsCut (reply_kind m.framing) given (Complete reply rest)
+        → (reply.status == 408) ≡ false
         → IsFair m (ended_over a j (share_value i first (Some p) ∷ []) (Quiet ∷ talk (request_of m j) given) (Some (outcome_of (Some reply)))) }
     ensures lost { (m : Manner) (a : SocketAddr) (i j : JobValue) (first : List Turn) (p : Outcome) → m.keeps ≡ true → i.address ≡ j.address
         → IsWhole m (share_value i first (Some p))
         → IsFair m (ended_over a j (share_value i first (Some p) ∷ []) (Quiet ∷ Went (request_of m j) ∷ []) (Some (outcome_of None))) }
+    ensures stray { (m : Manner) (a : SocketAddr) (i j : JobValue) (first : List Turn) (p : Outcome) (reply : HttpReply) (given rest : List ℕ)
+        → m.keeps ≡ true → i.address ≡ j.address → IsWhole m (share_value i first (Some p)) → IsCut (reply_kind m.framing) given (Complete reply rest)
+        → (reply.status == 408) ≡ true
+        → IsFair m (ended_over a j (share_value i first (Some p) ∷ []) (Quiet ∷ talk (request_of m j) given) (Some (outcome_of None))) }
 {}
 
 /// It goes over no stream that a job of another address went over, or at which nobody looked before its request was
-/// written; and over no used one where none are kept.
+/// written; and over no used one where none are kept. No answer is made of a 408 over a used one.
 fn other_ends_over_kept_streams()
     ensures anothers { (m : Manner) (a : SocketAddr) (i j : JobValue) (first turns : List Turn) (p o : Option Outcome) → (i.address ≡ j.address → ⊥)
         → IsFair m (ended_over a j (share_value i first p ∷ []) turns o) → ⊥ }
@@ -79,7 +84,12 @@ fn other_ends_over_kept_streams()
         → IsFair m (ended_over a j (x ∷ before) (talk (request_of m j) given) o) → ⊥ }
     ensures unkept { (m : Manner) (a : SocketAddr) (j : JobValue) (x : ShareValue) (before : List ShareValue) (turns : List Turn) (o : Option Outcome)
         → m.keeps ≡ false → IsFair m (ended_over a j (x ∷ before) turns o) → ⊥ }
-{}
+    ensures stray { (m : Manner) (a : SocketAddr) (j : JobValue) (x : ShareValue) (before : List ShareValue) (turns : List Turn) (reply : HttpReply) (rest body : List ℕ)
+        → IsCut (reply_kind m.framing) (given_of turns) (Complete reply rest) → (reply.status == 408) ≡ true
+        → IsFair m (ended_over a j (x ∷ before) turns (Some (Outcome.Answer body))) → ⊥ }
+{
+    reply_cut_law();
+}
 
 /// A reply in chunks is the answer where chunks are taken, and no reply where they are not.
 fn replies_in_chunks()

@@ -41,7 +41,8 @@ fn other_shares()
 {}
 
 /// A job that had its whole reply may leave its stream to be kept, and reads since may have said that nothing was
-/// there. The next job of its address may go over it, and leave it to be kept again.
+/// there. The next job of its address may go over it, and leave it to be kept again, or not, whatever came of it. One
+/// that was kept may be closed, whatever was read since.
 fn streams_that_are_kept()
     ensures kept { (m : Manner) (a : SocketAddr) (j : JobValue) (turns : List Turn) (o : Outcome) → m.keeps ≡ true → IsWhole m (share_value j turns (Some o))
         → AreShared m [] (ended a j [] turns (Some o) ∷ []) (kept_for j.address a (share_value j turns (Some o) ∷ []) [] ∷ []) [] }
@@ -51,13 +52,20 @@ fn streams_that_are_kept()
         → IsWhole m (share_value i first (Some o)) → IsWhole m (share_value j last (Some p)) → BeginsQuietly last
         → AreShared m [] (ended a i [] first (Some o) ∷ ended_over a j (share_value i first (Some o) ∷ []) last (Some p) ∷ [])
         (kept_for j.address a (share_value i first (Some o) ∷ share_value j last (Some p) ∷ []) [] ∷ []) [] }
+    ensures left { (m : Manner) (a : SocketAddr) (i j : JobValue) (first last : List Turn) (o : Outcome) (p : Option Outcome) → m.keeps ≡ true
+        → IsWhole m (share_value i first (Some o)) → BeginsQuietly last
+        → AreShared m [] (ended a i [] first (Some o) ∷ ended_over a j (share_value i first (Some o) ∷ []) last p ∷ []) []
+        (stream_value a (share_value i first (Some o) ∷ share_value j last p ∷ []) [] ∷ []) }
+    ensures closed { (m : Manner) (a : SocketAddr) (j : JobValue) (turns : List Turn) (o : Outcome) (bytes : List ℕ) → m.keeps ≡ true
+        → AreShared m [] (ended a j [] turns (Some o) ∷ []) [] (stream_value a (share_value j turns (Some o) ∷ []) (Quiet ∷ Came bytes ∷ []) ∷ []) }
     ensures under_way { (m : Manner) (a : SocketAddr) (i j : JobValue) (first turns : List Turn) (o : Outcome)
         → AreShared m (Some (asked_over a j (share_value i first (Some o) ∷ []) turns) ∷ []) (ended a i [] first (Some o) ∷ []) [] [] }
 {}
 
 /// No share of a stream that is kept is forgotten, or told twice. No stream is kept where none are, that no job went
 /// over, that brought something since, or whose job had no reply; for another address than its job's; unwatched, or
-/// with something to read.
+/// with something to read. No job goes over one whose job before had no reply, and nothing is written to one that is
+/// left.
 fn other_kept_streams()
     ensures forgets { (m : Manner) (a : SocketAddr) (i j : JobValue) (first last : List Turn) (o p : Option Outcome)
         → AreShared m [] (ended a i [] first o ∷ ended_over a j (share_value i first o ∷ []) last p ∷ [])
@@ -76,6 +84,11 @@ fn other_kept_streams()
         → AreShared m [] (ended a j [] turns None ∷ []) (kept_for j.address a (share_value j turns None ∷ []) [] ∷ []) [] → ⊥ }
     ensures unwatched { (m : Manner) (a : SocketAddr) (j : JobValue) (turns : List Turn) (o : Option Outcome)
         → AreShared m [] (ended a j [] turns o ∷ []) (kept_value (stream_value a (share_value j turns o ∷ []) []) j.address false None 5 ∷ []) [] → ⊥ }
+    ensures behind_none { (m : Manner) (a : SocketAddr) (i j : JobValue) (first last : List Turn) (p : Option Outcome)
+        → AreShared m [] (ended a i [] first None ∷ ended_over a j (share_value i first None ∷ []) last p ∷ []) []
+        (stream_value a (share_value i first None ∷ share_value j last p ∷ []) [] ∷ []) → ⊥ }
+    ensures written { (m : Manner) (a : SocketAddr) (j : JobValue) (turns : List Turn) (o : Option Outcome) (b : ℕ) (bytes : List ℕ)
+        → AreShared m [] (ended a j [] turns o ∷ []) [] (stream_value a (share_value j turns o ∷ []) (Went (b ∷ bytes) ∷ []) ∷ []) → ⊥ }
     ensures unread { (m : Manner) (a : SocketAddr) (j : JobValue) (turns : List Turn) (o : Option Outcome)
         → AreShared m [] (ended a j [] turns o ∷ [])
         (kept_value (stream_value a (share_value j turns o ∷ []) []) j.address true (Some (3, true)) 5 ∷ []) [] → ⊥ }

@@ -43,19 +43,28 @@ whole_request : (m : Manner) (j : JobValue) → IsPrefixOf (got_of (Quiet ∷ We
 whole_request m j = prefix_of (request_of m j) (request_of m j) [] (sym (append-nil (request_of m j)))
 
 pub returns-clause-answered : goal.returns-clause-answered
-returns-clause-answered c m a i j first p reply given rest keeps same whole cut = record {
+returns-clause-answered c m a i j first p reply given rest keeps same whole cut own = record {
   begun = begins_over m a i j first p (Came given ∷ []) keeps same whole (whole_request m j);
   outcome = λ o is. inr record {
     whole = append-nil (request_of m j);
     reply = reply;
-    rest = rest;
-    begins = subst (λ (t : List ℕ). IsCut (reply_kind m.framing) t (Complete reply rest)) (sym (append-nil given)) cut;
+    begins = (rest, subst (λ (t : List ℕ). IsCut (reply_kind m.framing) t (Complete reply rest)) (sym (append-nil given)) cut);
+    own = own;
     outcome_is = sym (some_is _ o is);
   };
+}
+
+pub returns-clause-stray : goal.returns-clause-stray
+returns-clause-stray c m a i j first p reply given rest keeps same whole cut stray = record {
+  begun = begins_over m a i j first p (Came given ∷ []) keeps same whole (whole_request m j);
+  outcome = λ o is. inl (
+    sym (some_is _ o is),
+    λ all. inr (reply, (rest, subst (λ (t : List ℕ). IsCut (reply_kind m.framing) t (Complete reply rest)) (sym (append-nil given)) cut), stray),
+  );
 }
 
 pub returns-clause-lost : goal.returns-clause-lost
 returns-clause-lost c m a i j first p keeps same whole = record {
   begun = begins_over m a i j first p [] keeps same whole (whole_request m j);
-  outcome = λ o is. inl (sym (some_is _ o is), λ all reply begins. none_read m.framing reply begins.0 begins.1);
+  outcome = λ o is. inl (sym (some_is _ o is), λ all. inl (λ reply begins. none_read m.framing reply begins.0 begins.1));
 }

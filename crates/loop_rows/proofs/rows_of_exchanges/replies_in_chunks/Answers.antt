@@ -9,6 +9,7 @@ use Rattle.loop_model.specs.declared.manner.Manner.{Manner}
 use Rattle.connect_codec.specs.Outcome.{outcome_of}
 use Rattle.loop_rows.specs.LoopRows.{IsReplyInChunks}
 use Rattle.loop_rows.proofs.ExchangeLemmas.{answered_by, lost_by_refusal, never_lost, not_refused, one_reply}
+use Rattle.loop_rows.proofs.RowLemmas.{off_on}
 use Rattle.loop_rows.proofs.rows_of_exchanges.replies_in_chunks.Goals as goal
 
 -- the text is cut so, as chunks are taken, and as they are not
@@ -28,15 +29,17 @@ pub returns-clause-lost : goal.returns-clause-lost
 returns-clause-lost c m a j reply given body is r answers e =
     let cut = cut_taken m given reply is r in
     ⊎_elim
-    (λ l. l.1 (append-nil (request_of m j)) reply (r.rest, subst (λ (t : List ℕ). IsCut (reply_kind m.framing) t (Complete reply r.rest)) (sym (append-nil given)) cut))
+    (λ l. ⊎_elim
+    (λ none. none reply (r.rest, subst (λ (t : List ℕ). IsCut (reply_kind m.framing) t (Complete reply r.rest)) (sym (append-nil given)) cut))
+    (λ stray. off_on stray.2) (l.1 (append-nil (request_of m j))))
     (λ other. never_lost body (sym answers ∙ ap (λ q. outcome_of (Some q)) (one_reply _ _ _ _ (c.reply_cut_law.ensures.unique m.framing given _ _ cut
-    (subst (λ (t : List ℕ). IsCut (reply_kind m.framing) t (Complete other.reply other.rest)) (append-nil given) other.begins))) ∙ sym other.outcome_is))
+    (subst (λ (t : List ℕ). IsCut (reply_kind m.framing) t (Complete other.reply other.begins.0)) (append-nil given) other.begins.1))) ∙ sym other.outcome_is))
     (e.outcome _ refl)
 
 pub returns-clause-made_up : goal.returns-clause-made_up
 returns-clause-made_up c m a j reply given body is r e =
     ⊎_elim
     (λ l. never_lost body l.0)
-    (λ other. not_refused r.fault other.reply other.rest (c.reply_cut_law.ensures.unique m.framing given _ _ (cut_refused m given reply is r)
-    (subst (λ (t : List ℕ). IsCut (reply_kind m.framing) t (Complete other.reply other.rest)) (append-nil given) other.begins)))
+    (λ other. not_refused r.fault other.reply other.begins.0 (c.reply_cut_law.ensures.unique m.framing given _ _ (cut_refused m given reply is r)
+    (subst (λ (t : List ℕ). IsCut (reply_kind m.framing) t (Complete other.reply other.begins.0)) (append-nil given) other.begins.1)))
     (e.outcome _ refl)

@@ -1,8 +1,10 @@
-use Rattle.std.proofs.Common.{◌≡◌, [], ◌∷◌, ◌∙◌, Some, None, arith, false, refl, sym, true}
+use Rattle.std.proofs.Common.{◌≡◌, ℕ, List, [], ◌∷◌, ◌++◌, ◌∙◌, All, Some, None, ap, arith, false, length, refl, subst, sym, true}
+use Rattle.std.proofs.lemmas.List.Elements.{All-head}
+use Rattle.loop_model.specs.declared.manner.Manner.{Manner}
 use Rattle.std.specs.declared.net.socket_addr.SocketAddr.{SocketAddr}
-use Rattle.loop_model.specs.Shares.{IsKept, IsWhole}
+use Rattle.loop_model.specs.Shares.{IsKept, IsLeft, IsWhole}
 use Rattle.loop_model.specs.Streams.{ShareValue, kept_value, share_value, stream_value}
-use Rattle.wires.specs.Turns.{Came}
+use Rattle.wires.specs.Turns.{Came, Went}
 use Rattle.loop_rows.specs.LoopRows.{kept_for}
 use Rattle.loop_rows.proofs.ExchangeLemmas.{first_of_all, no_some}
 use Rattle.loop_rows.proofs.QuietLemmas.{IsQuiet, came_quiet}
@@ -42,6 +44,26 @@ returns-clause-half c m a j turns s =
 pub returns-clause-unwatched : goal.returns-clause-unwatched
 returns-clause-unwatched c m a j turns o s =
     off_on (first_of_all (IsKept m) (kept_value (stream_value a (share_value j turns o ∷ []) []) j.address false None 5) s.kept_are).watched
+
+same_first : (x y : ShareValue) (xs ys : List ShareValue) → x ∷ xs ≡ y ∷ ys → x ≡ y
+same_first x y xs ys e = cc
+
+-- where two shares are left, the first is whole
+first_is_whole : (m : Manner) (x y : ShareValue) (others : List ShareValue) (last : ShareValue) → x ∷ y ∷ [] ≡ others ++ last ∷ [] → All (IsWhole m) others → IsWhole m x
+first_is_whole m x y [] last are whole = absurd (omega (arith, ap (λ (l : List ShareValue). length l) are))
+first_is_whole m x y (z ∷ others) last are whole = subst (IsWhole m) (sym (same_first x z (y ∷ []) (others ++ last ∷ []) are)) (All-head (IsWhole m) z others whole)
+
+pub returns-clause-behind_none : goal.returns-clause-behind_none
+returns-clause-behind_none c m a i j first last p s =
+    let x = share_value i first None in
+    let y = share_value j last p in
+    let left = first_of_all (IsLeft m) (stream_value a (x ∷ y ∷ []) []) s.left_are in
+    no_some _ (first_is_whole m x y left.others left.last left.before_are left.shares.whole).outcome_is
+
+pub returns-clause-written : goal.returns-clause-written
+returns-clause-written c m a j turns o b bytes s =
+    let left = first_of_all (IsLeft m) (stream_value a (share_value j turns o ∷ []) (Went (b ∷ bytes) ∷ [])) s.left_are in
+    omega (arith, ap (λ (l : List ℕ). length l) left.unwritten)
 
 pub returns-clause-unread : goal.returns-clause-unread
 returns-clause-unread c m a j turns o s =

@@ -15,6 +15,8 @@ pub returns-after-received-clause-steps : goal.returns-after-received-clause-ste
 returns-after-received-clause-steps g c =
     rw (← c.self.view_is)
     (rw c.in-Some.is (λ framing request a. elim c.match-received.branch [
-      | in-Some-received w ↦ rw w.result-is (read_ends framing request _ _ _ _ _ _ _ _ w.in-Some-received.end c.in-Bytes.ensures.turns c.in-Bytes.ensures.within c.received.ensures.left (w.in-Some-received.ensures.comes _ _ a.reads) a)
+      | in-Some-received w ↦ rw w.result-is (rw w.own_end.ensures
+          (read_ends framing request _ _ _ _ _ _ _ _ _ w.in-Some-received.end c.in-Bytes.ensures.turns c.in-Bytes.ensures.within c.received.ensures.left c.is_used-is_used.ensures
+          (w.in-Some-received.ensures.comes _ _ a.reads) a))
       | in-None w ↦ rw w.result-is (read_asks framing request _ _ _ _ _ _ _ _ c.received.ensures.left c.in-Bytes.ensures.turns c.in-Bytes.ensures.within (w.in-None.ensures.comes _ _ a.reads) a)
     ]))

@@ -1,5 +1,6 @@
 use Rattle.gateway_loop.proofs.Words.{◌≡◌, List, Option, None, Some, ap, sym, subst, ◌∙◌, slice_index_or, Slab, AskingState, HandedJob, beside, map}
-use Rattle.gateway_loop.proofs.AskLemmas.{goes_begin, goes_still, takes_job, takes_none}
+use Rattle.gateway_loop.proofs.AskLemmas.{goes_begin, goes_still}
+use Rattle.gateway_loop.proofs.FairLemmas.{takes_job, takes_none}
 use Rattle.gateway_loop.proofs.Places.{Put, put_one}
 use Rattle.gateway_loop.proofs.event_loop.EventLoop.begin.Goals as goal
 

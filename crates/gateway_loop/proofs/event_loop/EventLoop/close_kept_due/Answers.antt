@@ -1,6 +1,7 @@
 use Rattle.gateway_loop.proofs.Words.{◌≡◌, ◌∷◌, ◌∙◌, [], List, ap, append-nil, beside, map, refl, sym, KeptValue, length}
 use Rattle.branch_asking.specs.Asking.{BackendValue}
-use Rattle.gateway_loop.proofs.AskLemmas.{goes_kept, goes_unkept, keeps_kept, left_push}
+use Rattle.gateway_loop.proofs.AskLemmas.{goes_kept, goes_unkept}
+use Rattle.gateway_loop.proofs.FairLemmas.{keeps_kept, left_push}
 use Rattle.gateway_loop.proofs.KeptLemmas.{looked_same, none_moves, one_fewer, out_moves}
 use Rattle.gateway_loop.proofs.event_loop.EventLoop.close_kept_due.Goals as goal
 

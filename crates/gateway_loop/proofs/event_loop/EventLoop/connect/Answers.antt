@@ -1,5 +1,6 @@
 use Rattle.gateway_loop.proofs.Words.{ap, sym, AskingState, beside, map}
-use Rattle.gateway_loop.proofs.AskLemmas.{goes_over, keeps_put, shares_over}
+use Rattle.gateway_loop.proofs.AskLemmas.{goes_over}
+use Rattle.gateway_loop.proofs.FairLemmas.{keeps_put, shares_over}
 use Rattle.gateway_loop.proofs.Places.{put_set}
 use Rattle.gateway_loop.proofs.event_loop.EventLoop.connect.Goals as goal
 

@@ -1,6 +1,7 @@
 use Rattle.gateway_loop.proofs.Words.{[], beside, map, ◌∙◌}
 use Rattle.gateway_loop.proofs.AccountLemmas.{done_then}
-use Rattle.gateway_loop.proofs.AskLemmas.{drains_so, goes_then, keeps_clients}
+use Rattle.gateway_loop.proofs.AskLemmas.{drains_so, goes_then}
+use Rattle.gateway_loop.proofs.FairLemmas.{keeps_clients}
 use Rattle.gateway_loop.proofs.event_loop.EventLoop.drain.Goals as goal
 
 pub returns-clause-continues : goal.returns-clause-continues

@@ -1,5 +1,5 @@
 use Rattle.gateway_loop.proofs.Words.{beside, map}
-use Rattle.gateway_loop.proofs.AskLemmas.{fair_closing}
+use Rattle.gateway_loop.proofs.FairLemmas.{fair_closing}
 use Rattle.gateway_loop.proofs.event_loop.EventLoop.explained_law.Goals as goal
 
 pub returns : goal.returns

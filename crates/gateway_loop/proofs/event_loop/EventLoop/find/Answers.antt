@@ -1,6 +1,7 @@
 use Rattle.gateway_loop.proofs.Words.{List, Option, ap, sym, whole_loop, AskingValue, beside, map}
 use Rattle.gateway_loop.specs.Loop.{found_asking}
-use Rattle.gateway_loop.proofs.AskLemmas.{finds_put, found_asked, goes_put, goes_same, shares_stay}
+use Rattle.gateway_loop.proofs.AskLemmas.{goes_put, goes_same}
+use Rattle.gateway_loop.proofs.FairLemmas.{finds_put, found_asked, shares_stay}
 use Rattle.gateway_loop.proofs.Places.{put_set}
 use Rattle.gateway_loop.proofs.TellLemmas.{asking_changed, asking_same}
 use Rattle.gateway_loop.proofs.event_loop.EventLoop.find.Goals as goal

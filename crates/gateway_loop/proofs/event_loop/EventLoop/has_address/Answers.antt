@@ -1,5 +1,6 @@
 use Rattle.gateway_loop.proofs.Words.{ap, sym, AskingState, beside, map}
-use Rattle.gateway_loop.proofs.AskLemmas.{goes_put, keeps_put, shares_stay}
+use Rattle.gateway_loop.proofs.AskLemmas.{goes_put}
+use Rattle.gateway_loop.proofs.FairLemmas.{keeps_put, shares_stay}
 use Rattle.gateway_loop.proofs.Places.{put_set}
 use Rattle.gateway_loop.proofs.event_loop.EventLoop.has_address.Goals as goal
 

@@ -1,5 +1,6 @@
 use Rattle.gateway_loop.proofs.Words.{beside, map}
-use Rattle.gateway_loop.proofs.AskLemmas.{goes_still, goes_then, keeps_clients}
+use Rattle.gateway_loop.proofs.AskLemmas.{goes_still, goes_then}
+use Rattle.gateway_loop.proofs.FairLemmas.{keeps_clients}
 use Rattle.gateway_loop.proofs.event_loop.EventLoop.leave.Goals as goal
 
 pub returns-then-not-lingers : goal.returns-then-not-lingers

@@ -1,5 +1,6 @@
 use Rattle.gateway_loop.proofs.Words.{beside, map}
-use Rattle.gateway_loop.proofs.AskLemmas.{goes_gone, keeps_clients}
+use Rattle.gateway_loop.proofs.AskLemmas.{goes_gone}
+use Rattle.gateway_loop.proofs.FairLemmas.{keeps_clients}
 use Rattle.gateway_loop.proofs.event_loop.EventLoop.let_go.Goals as goal
 
 pub returns-clause-goes : goal.returns-clause-goes

@@ -1,7 +1,8 @@
 use Rattle.gateway_loop.proofs.Words.{◌≡◌, ◌∷◌, ◌∙◌, [], List, append-nil, beside, map, refl, sym, ⊎_elim, KeptValue}
 use Rattle.branch_asking.specs.Asking.{BackendValue}
 use Rattle.gateway_loop.specs.Kept.{OneIsQuiet}
-use Rattle.gateway_loop.proofs.AskLemmas.{goes_kept, goes_unkept, keeps_kept, left_push}
+use Rattle.gateway_loop.proofs.AskLemmas.{goes_kept, goes_unkept}
+use Rattle.gateway_loop.proofs.FairLemmas.{keeps_kept, left_push}
 use Rattle.gateway_loop.proofs.KeptLemmas.{Moves, none_moves, out_moves, quiet_moves}
 use Rattle.gateway_loop.proofs.event_loop.EventLoop.look_at_kept.Goals as goal
 

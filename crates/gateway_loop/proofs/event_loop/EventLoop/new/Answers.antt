@@ -1,5 +1,5 @@
 use Rattle.gateway_loop.proofs.Words.{map, refl}
-use Rattle.gateway_loop.proofs.AskLemmas.{starts_fair}
+use Rattle.gateway_loop.proofs.FairLemmas.{starts_fair}
 use Rattle.gateway_loop.proofs.AccountLemmas.{first_accounts}
 use Rattle.gateway_loop.proofs.event_loop.EventLoop.new.Goals as goal
 

@@ -1,5 +1,6 @@
 use Rattle.gateway_loop.proofs.Words.{beside, map, Contains-push, FoundValue, subst, sym, List, Contains}
-use Rattle.gateway_loop.proofs.AskLemmas.{admits_found, fair_found}
+use Rattle.gateway_loop.proofs.AskLemmas.{admits_found}
+use Rattle.gateway_loop.proofs.FairLemmas.{fair_found}
 use Rattle.gateway_loop.proofs.GrowLemmas.{noted}
 use Rattle.gateway_loop.proofs.event_loop.EventLoop.note_found.Goals as goal
 

@@ -1,7 +1,8 @@
 use Rattle.gateway_loop.proofs.Words.{◌≡◌, ◌∙◌, ◌∷◌, ◌++◌, [], List, None, Option, Some, ap, append-nil, map, subst, sym, AskingState, ClosedValue, HandedJob, StreamValue, asked_for, beside, closed_stream}
 use Rattle.branch_asking.specs.Asking.{BackendValue}
 use Rattle.gateway_loop.specs.Closing.{ClosesFrom}
-use Rattle.gateway_loop.proofs.AskLemmas.{ends_one, goes_ended, left_push, shares_stay}
+use Rattle.gateway_loop.proofs.AskLemmas.{goes_ended}
+use Rattle.gateway_loop.proofs.FairLemmas.{ends_one, left_push, shares_stay}
 use Rattle.gateway_loop.proofs.ClosingLemmas.{closes_none}
 use Rattle.gateway_loop.proofs.CountLemmas.{shown_goes}
 use Rattle.gateway_loop.proofs.KeptLemmas.{record_parts, shown_streams}
@@ -22,7 +23,7 @@ invariant_of-self-in-Some g c =
     let same = c.conclude-outcome.ensures.manner ∙ (c.self.invariant.1 c.args.place c.in_ok-asking.asking (sym c.in_ok-asking.ensures.value)).0 in
     let parted =
     record_parts i.manner y.manner (asked_for y) o same c.conclude-outcome.ensures.fair i.kept c.keep.new.self c.may_be_kept-may_keep.result c.conclude-outcome.result.is_whole c.into_parts-job.result.2 c.keep.result
-    c.address.result.now c.into_parts-job.ensures.stream (c.address.ensures ∙ ap (λ (j : HandedJob). j.job.address) c.into_parts-job.ensures.job) c.may_be_kept-may_keep.ensures c.conclude-outcome.ensures.whole
+    c.address.result.now c.into_parts-job.ensures.stream (c.address.ensures ∙ ap (λ (j : HandedJob). j.job.address) c.into_parts-job.ensures.job) c.may_be_kept-may_keep.ensures.whole c.conclude-outcome.ensures.whole
     c.keep.ensures in
     let put = put_one i.asking c.try_remove.new.self c.args.place _ c.try_remove.ensures.updates in
     ends_one i.manner i.kept (map (λ s. s.0.stream) i.left.items) (map (λ f. f.0) i.looked_up.items) i.clients c.record.new.self i.asking.slots c.try_remove.new.self.slots i.ended.items c.and-self-inside.result.items
@@ -41,7 +42,7 @@ invariant_of-self-in_default-keep g c =
     let same = c.conclude-outcome.ensures.manner ∙ (c.self.invariant.1 c.args.place c.in_ok-asking.asking (sym c.in_ok-asking.ensures.value)).0 in
     let parted =
     record_parts i.manner y.manner (asked_for y) o same c.conclude-outcome.ensures.fair i.kept c.keep.new.self c.may_be_kept-may_keep.result c.conclude-outcome.result.is_whole c.into_parts-job.result.2 c.keep.result
-    c.address.result.now c.into_parts-job.ensures.stream (c.address.ensures ∙ ap (λ (j : HandedJob). j.job.address) c.into_parts-job.ensures.job) c.may_be_kept-may_keep.ensures c.conclude-outcome.ensures.whole
+    c.address.result.now c.into_parts-job.ensures.stream (c.address.ensures ∙ ap (λ (j : HandedJob). j.job.address) c.into_parts-job.ensures.job) c.may_be_kept-may_keep.ensures.whole c.conclude-outcome.ensures.whole
     c.keep.ensures in
     let put = put_one i.asking c.try_remove.new.self c.args.place _ c.try_remove.ensures.updates in
     ends_one i.manner i.kept (map (λ s. s.0.stream) i.left.items) (map (λ f. f.0) i.looked_up.items) i.clients c.record.new.self i.asking.slots c.try_remove.new.self.slots i.ended.items c.and-self-inside.result.items
@@ -59,7 +60,7 @@ returns-clause-goes g c =
     let same = c.conclude-outcome.ensures.manner ∙ (c.self.invariant.1 c.args.place c.in_ok-asking.asking (sym c.in_ok-asking.ensures.value)).0 in
     let parted =
     record_parts i.manner y.manner (asked_for y) o same c.conclude-outcome.ensures.fair i.kept c.keep.new.self c.may_be_kept-may_keep.result c.conclude-outcome.result.is_whole c.into_parts-job.result.2 c.keep.result
-    c.address.result.now c.into_parts-job.ensures.stream (c.address.ensures ∙ ap (λ (j : HandedJob). j.job.address) c.into_parts-job.ensures.job) c.may_be_kept-may_keep.ensures c.conclude-outcome.ensures.whole
+    c.address.result.now c.into_parts-job.ensures.stream (c.address.ensures ∙ ap (λ (j : HandedJob). j.job.address) c.into_parts-job.ensures.job) c.may_be_kept-may_keep.ensures.whole c.conclude-outcome.ensures.whole
     c.keep.ensures in
     let put = put_one i.asking c.try_remove.new.self c.args.place _ c.try_remove.ensures.updates in
     let net = g.N.Network.value c.args.net.now in

@@ -1,5 +1,6 @@
 use Rattle.gateway_loop.proofs.Words.{List, Option, ap, sym, whole_loop, AskingState, AskingValue, asked_for, beside, map, told_asking}
-use Rattle.gateway_loop.proofs.AskLemmas.{goes_put, goes_same, keeps_put, same_streams, shares_stay}
+use Rattle.gateway_loop.proofs.AskLemmas.{goes_put, goes_same}
+use Rattle.gateway_loop.proofs.FairLemmas.{keeps_put, same_streams, shares_stay}
 use Rattle.gateway_loop.proofs.Places.{put_set}
 use Rattle.gateway_loop.proofs.TellLemmas.{asking_changed, asking_same}
 use Rattle.gateway_loop.proofs.event_loop.EventLoop.report.Goals as goal

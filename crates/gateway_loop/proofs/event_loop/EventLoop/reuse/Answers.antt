@@ -1,7 +1,8 @@
 use Rattle.gateway_loop.proofs.Words.{◌≡◌, ◌∷◌, ◌∙◌, [], List, ap, beside, map, refl, subst, sym, HandedJob, Manner, StreamValue}
 use Rattle.branch_asking.specs.Asking.{BackendValue, HasLookedAt}
 use Rattle.branch_asking.specs.Streams.{IsReadyFor}
-use Rattle.gateway_loop.proofs.AskLemmas.{goes_again, goes_kept, goes_same, keeps_again, keeps_kept, left_push}
+use Rattle.gateway_loop.proofs.AskLemmas.{goes_again, goes_kept, goes_same}
+use Rattle.gateway_loop.proofs.FairLemmas.{keeps_again, keeps_kept, left_push}
 use Rattle.gateway_loop.proofs.KeptLemmas.{looked_same, out_moves, ready}
 use Rattle.gateway_loop.proofs.Places.{put_set, set_same}
 use Rattle.gateway_loop.proofs.event_loop.EventLoop.reuse.Goals as goal

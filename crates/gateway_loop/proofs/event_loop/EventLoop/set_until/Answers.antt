@@ -1,5 +1,6 @@
 use Rattle.gateway_loop.proofs.Words.{ap, sym, AskingState, beside, map}
-use Rattle.gateway_loop.proofs.AskLemmas.{goes_put, goes_same, keeps_put, same_streams, shares_stay}
+use Rattle.gateway_loop.proofs.AskLemmas.{goes_put, goes_same}
+use Rattle.gateway_loop.proofs.FairLemmas.{keeps_put, same_streams, shares_stay}
 use Rattle.gateway_loop.proofs.Places.{put_set}
 use Rattle.gateway_loop.proofs.event_loop.EventLoop.set_until.Goals as goal
 use Rattle.gateway_loop.proofs.event_loop.EventLoop.set_until.Goals.{in-Some, in_default}

@@ -1,5 +1,6 @@
 use Rattle.gateway_loop.proofs.Words.{[], beside, map, whole_loop}
-use Rattle.gateway_loop.proofs.AskLemmas.{goes_on, goes_told, goes_then, keeps_clients, ticked_on}
+use Rattle.gateway_loop.proofs.AskLemmas.{goes_on, goes_told, goes_then, ticked_on}
+use Rattle.gateway_loop.proofs.FairLemmas.{keeps_clients}
 use Rattle.gateway_loop.proofs.event_loop.EventLoop.tick.Goals as goal
 
 pub returns-then-tick-clause-ticks : goal.returns-then-tick-clause-ticks

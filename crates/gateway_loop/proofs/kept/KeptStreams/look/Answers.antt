@@ -21,4 +21,4 @@ returns g c =
     let x = c.in_ok-kept.kept.now in
     let lt : c.args.index < length items = search rules in
     rw (← c.self.view_is)
-    (looks_out items c.args.index x c.hear.new.self lt c.in_ok-kept.ensures.value c.take_at.result c.take_at.new.self (subst (λ (b : Bool). Hears b x c.hear.new.self) c.if-hear.false c.hear.ensures) c.take_at.ensures)
+    (looks_out items c.args.index x c.hear.new.self lt c.in_ok-kept.ensures.value c.take_spoilt.result c.take_spoilt.new.self (subst (λ (b : Bool). Hears b x c.hear.new.self) c.if-hear.false c.hear.ensures) c.take_spoilt.ensures)

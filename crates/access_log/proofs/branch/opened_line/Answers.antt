@@ -1,19 +1,19 @@
 use Rattle.std.proofs.Common.{◌∙◌, Some, ap, refl}
 use Rattle.std.proofs.lemmas.Result.{IfOk-weaker}
 use Rattle.access_log.specs.Branch.{branch_line}
-use Rattle.access_log.proofs.branch.branch_line.Goals as goal
+use Rattle.access_log.proofs.branch.opened_line.Goals as goal
 
 pub returns-clause-text : goal.returns-clause-text
 unfolding branch_line
 returns-clause-text c =
     IfOk-weaker c.object_text.result _ _
     (λ line said.
-    rw (c.of_text.ensures, c.of_number.ensures, c.name.ensures, c.number.ensures, c.status_of.ensures, c.from.ensures) at said)
+    rw c.requires (rw (c.of_text.ensures, c.of_number.ensures, c.name.ensures, c.number.ensures, c.status_of.ensures, c.from.ensures) at said))
     c.object_text.ensures.text
 
 pub returns-clause-reads_back : goal.returns-clause-reads_back
 returns-clause-reads_back c =
     IfOk-weaker c.object_text.result _ _
     (λ line said. said refl ∙ ap Some
-    (rw (c.of_text.ensures, c.of_number.ensures, c.name.ensures, c.number.ensures, c.status_of.ensures, c.from.ensures) refl))
+    (rw (c.requires, c.of_text.ensures, c.of_number.ensures, c.name.ensures, c.number.ensures, c.status_of.ensures, c.from.ensures) refl))
     c.object_text.ensures.reads_back
